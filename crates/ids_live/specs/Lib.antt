@@ -1,0 +1,11 @@
+pub mod Words
+pub mod Inputs
+pub mod Lines
+pub mod Told
+pub mod Stops
+pub mod Drain
+pub mod Steps
+pub mod Run
+pub mod Complete
+pub mod Failures
+pub mod Fitness

@@ -1,0 +1,48 @@
+-- What a part of the run says where it stops.
+use Rattle.std.specs.Prelude.{◌≡◌, ℕ, ◌≤◌, Option, Result, Ok, Err, ⊤}
+use Rattle.shelf_io.specs.Causes.{Rose}
+use Rattle.shelf_io.specs.Pieces.{Files}
+use Rattle.ids_live.specs.declared.refused.Refused.{Refused}
+use Rattle.ids_live.specs.declared.stop.Stop.{Stop}
+use Rattle.ids_live.specs.declared.stop.Stop.TheVariants as stop
+
+-- There was an input of this kind, and the answer is what it reads as. A fault of the shelf and want of
+-- memory say nothing.
+abbrev pub Reads : {I V : Type 0} → (I → Type 0) → (I → Result V Refused) → Result V Stop → Type 0
+Reads {I} IsInput read (Ok value) = (i : I) × IsInput i × (read i ≡ Ok value)
+Reads {I} IsInput read (Err (stop.Refused refused)) = (i : I) × IsInput i × (read i ≡ Err refused)
+Reads IsInput read (Err stop.Shelf) = ⊤
+Reads IsInput read (Err stop.Memory) = ⊤
+
+-- the fact, where the shelf was at fault
+abbrev pub OnShelf : {V : Type 0} → Result V Stop → Type 0 → Type 0
+OnShelf (Err stop.Shelf) fact = fact
+OnShelf (Err stop.Memory) fact = ⊤
+OnShelf (Err (stop.Refused refused)) fact = ⊤
+OnShelf (Ok value) fact = ⊤
+
+-- What a shelf holds stays, and its count of faults has risen where it was at fault.
+pub record LeavesShelf {V : Type 0} (held now : Option Files) (before faults : ℕ) (answer : Result V Stop) : Type 0 where
+  pub same : now ≡ held
+  pub later : before ≤ faults
+  pub cause : OnShelf answer (Rose before faults)
+
+-- It stopped for a cause outside: no input was refused.
+abbrev pub IsOutside : Stop → Type 0
+IsOutside stop.Shelf = ⊤
+IsOutside stop.Memory = ⊤
+IsOutside (stop.Refused refused) = ⊥
+
+-- the fact, unless the shelf was at fault
+abbrev pub UnlessShelf : {V : Type 0} → Result V Stop → Type 0 → Type 0
+UnlessShelf (Err stop.Shelf) fact = ⊤
+UnlessShelf (Err stop.Memory) fact = fact
+UnlessShelf (Err (stop.Refused refused)) fact = fact
+UnlessShelf (Ok value) fact = fact
+
+-- The count of faults stands still unless the shelf was at fault. A steady shelf stays so, and is at fault only where it doesn't hold
+-- what is asked for.
+pub record StaysSteady {V : Type 0} (steady after : Type 0) (before faults : ℕ) (missing : Type 0) (answer : Result V Stop) : Type 0 where
+  pub stays : steady → after
+  pub calm : UnlessShelf answer (faults ≡ before)
+  pub sure : steady → OnShelf answer missing

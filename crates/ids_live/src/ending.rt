@@ -1,0 +1,13 @@
+use audit_model::Journal;
+
+/// How a run ended.
+#[derive(Drop)]
+pub struct Ended {
+    /// 0 the report passes, 1 it fails, 2 an input was refused, 3 the shelf failed, 4 the sink failed,
+    /// 5 want of memory, 6 the words aren't taken.
+    pub status: u8,
+    /// The entries that were made.
+    pub journal: Journal,
+    /// How many workers ended for want of memory: none, since a serial run has none.
+    pub lapsed: u32,
+}

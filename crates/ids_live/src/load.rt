@@ -1,0 +1,145 @@
+//! The four inputs, read whole and then as their forms.
+ghost use Rattle.std.specs.Prelude.{◌≡◌, None, ◌<◌, ◌≤◌, ◌^◌, length, IfOk, IfErr};
+ghost use Rattle.std.specs.Str.{chars};
+ghost use Rattle.audit_model.specs.Models.{IsModel};
+ghost use Rattle.audit_model.specs.Specifications.{AreSpecifications};
+ghost use Rattle.ids_live.specs.Fitness.{IsFit};
+ghost use Rattle.ids_live.specs.Inputs.{Inputs, IsHeld, AreHeld, limit, model_limit, past_mark, schema_read, specs_read, model_read, script_read, loaded_of};
+ghost use Rattle.ids_live.specs.Stops.{Reads, LeavesShelf, StaysSteady, IsOutside};
+ghost use Rattle.ids_live.specs.Told.{input_told, inputs_told};
+ghost use Rattle.ids_live.specs.Words.{command_shown};
+
+use crate::refused::{Input, Refused};
+use crate::stop::Stop;
+use crate::words::Names;
+use audit_model::{Specifications, in_order};
+use ifc_base::{Bytes, Instances, Refusal};
+use narrow_forms::{read_model, read_script, read_specifications};
+use shelf_io::{Shelf, read_all};
+use std::alloc::Global;
+
+/// The most bytes of the model file.
+const MODEL_LIMIT: usize = 134_217_728;
+
+/// The most bytes of each other input.
+const LIMIT: usize = 16_777_216;
+
+/// The most instances of a model.
+const INSTANCE_LIMIT: u32 = 2_000_000;
+
+/// What the inputs say.
+#[derive(Drop)]
+pub struct Loaded {
+    pub specs: Specifications,
+    /// In ascending id.
+    pub model: Instances,
+}
+
+/// Reads the inputs in their order, up to the first that is refused.
+pub fn load<S: Shelf>(alloc: Global, shelf: &mut S, names: Names) -> Result<Loaded, Stop>
+    ensures shelf { LeavesShelf (S.held shelf.old) (S.held shelf.new) (S.faults shelf.old) (S.faults shelf.new) result }
+    ensures steady { StaysSteady (S.steady shelf.old) (S.steady shelf.new) (S.faults shelf.old) (S.faults shelf.new) (inputs_told (S.held shelf.old) (command_shown names.entry) ≡ None) result }
+    ensures reads { Reads (AreHeld (S.held shelf.old) (command_shown names.entry)) loaded_of result }
+    ensures fit { IfOk result IsFit }
+{
+    load_schema(alloc, shelf, names.schema)?;
+    let specs = load_specs(alloc, shelf, names.specs)?;
+    let model = load_model(alloc, shelf, names.model)?;
+    load_script(alloc, shelf, names.script)?;
+    Ok(Loaded { specs, model })
+}
+
+/// The schema, of which only the length is looked at so far.
+fn load_schema<S: Shelf>(alloc: Global, shelf: &mut S, name: &str) -> Result<(), Stop>
+    ensures shelf { LeavesShelf (S.held shelf.old) (S.held shelf.new) (S.faults shelf.old) (S.faults shelf.new) result }
+    ensures steady { StaysSteady (S.steady shelf.old) (S.steady shelf.new) (S.faults shelf.old) (S.faults shelf.new) (input_told (S.held shelf.old) name.now limit ≡ None) result }
+    ensures reads { Reads (IsHeld (S.held shelf.old) name.now limit) schema_read result }
+{
+    match whole_input(alloc, shelf, name, LIMIT)? {
+        Some(_) => Ok(()),
+        None => Err(Stop::Refused(Refused::TooLong(Input::Schema))),
+    }
+}
+
+fn load_specs<S: Shelf>(alloc: Global, shelf: &mut S, name: &str) -> Result<Specifications, Stop>
+    ensures shelf { LeavesShelf (S.held shelf.old) (S.held shelf.new) (S.faults shelf.old) (S.faults shelf.new) result }
+    ensures steady { StaysSteady (S.steady shelf.old) (S.steady shelf.new) (S.faults shelf.old) (S.faults shelf.new) (input_told (S.held shelf.old) name.now limit ≡ None) result }
+    ensures reads { Reads (IsHeld (S.held shelf.old) name.now limit) specs_read result }
+    ensures fit { IfOk result AreSpecifications }
+{
+    let Some(bytes) = whole_input(alloc, shelf, name, LIMIT)? else {
+        return Err(Stop::Refused(Refused::TooLong(Input::Specs)));
+    };
+    match read_specifications(alloc, past_mark(bytes.as_slice())) {
+        Ok(specs) => Ok(specs),
+        Err(Refusal::Fault(fault)) => Err(Stop::Refused(Refused::InSpecs(fault))),
+        Err(Refusal::Memory) => Err(Stop::Memory),
+    }
+}
+
+fn load_model<S: Shelf>(alloc: Global, shelf: &mut S, name: &str) -> Result<Instances, Stop>
+    ensures shelf { LeavesShelf (S.held shelf.old) (S.held shelf.new) (S.faults shelf.old) (S.faults shelf.new) result }
+    ensures steady { StaysSteady (S.steady shelf.old) (S.steady shelf.new) (S.faults shelf.old) (S.faults shelf.new) (input_told (S.held shelf.old) name.now model_limit ≡ None) result }
+    ensures reads { Reads (IsHeld (S.held shelf.old) name.now model_limit) model_read result }
+    ensures ascending { IfOk result IsModel }
+    ensures few { IfOk result (λ model. length model < 2 ^ 32) }
+{
+    let Some(bytes) = whole_input(alloc, shelf, name, MODEL_LIMIT)? else {
+        return Err(Stop::Refused(Refused::TooLong(Input::Model)));
+    };
+    match read_model(alloc, past_mark(bytes.as_slice()), INSTANCE_LIMIT) {
+        Ok(instances) => match in_order(alloc, instances) {
+            Ok(model) => Ok(model),
+            Err(_) => Err(Stop::Memory),
+        },
+        Err(Refusal::Fault(fault)) => Err(Stop::Refused(Refused::InModel(fault))),
+        Err(Refusal::Memory) => Err(Stop::Memory),
+    }
+}
+
+fn load_script<S: Shelf>(alloc: Global, shelf: &mut S, name: &str) -> Result<(), Stop>
+    ensures shelf { LeavesShelf (S.held shelf.old) (S.held shelf.new) (S.faults shelf.old) (S.faults shelf.new) result }
+    ensures steady { StaysSteady (S.steady shelf.old) (S.steady shelf.new) (S.faults shelf.old) (S.faults shelf.new) (input_told (S.held shelf.old) name.now limit ≡ None) result }
+    ensures reads { Reads (IsHeld (S.held shelf.old) name.now limit) script_read result }
+{
+    let Some(bytes) = whole_input(alloc, shelf, name, LIMIT)? else {
+        return Err(Stop::Refused(Refused::TooLong(Input::Script)));
+    };
+    match read_script(past_mark(bytes.as_slice())) {
+        Ok(()) => Ok(()),
+        Err(fault) => Err(Stop::Refused(Refused::InScript(fault))),
+    }
+}
+
+/// The bytes of an input, or None where it has more than its limit. At most one byte more than the
+/// limit is read.
+fn whole_input<S: Shelf>(
+    alloc: Global,
+    shelf: &mut S,
+    name: &str,
+    most: usize,
+) -> Result<Option<Bytes>, Stop>
+    requires { most < 1000000000 }
+    ensures shelf { LeavesShelf (S.held shelf.old) (S.held shelf.new) (S.faults shelf.old) (S.faults shelf.new) result }
+    ensures steady { StaysSteady (S.steady shelf.old) (S.steady shelf.new) (S.faults shelf.old) (S.faults shelf.new) (input_told (S.held shelf.old) name.now most ≡ None) result }
+    ensures held { IfOk result (IsHeld (S.held shelf.old) name.now most) }
+    ensures outside { IfErr result IsOutside }
+{
+    let bytes = read_all(alloc, shelf, name, most + 1)?;
+    if bytes.as_slice().len() > most {
+        return Ok(None);
+    }
+    Ok(Some(bytes))
+}
+
+/// What stands behind a byte order mark, if there is one.
+#[tactic(auto, unfolding(crate::specs::Inputs::past_mark))]
+fn past_mark(bytes: &[u8]) -> &[u8]
+    ensures { result.now ≡ past_mark bytes.now }
+{
+    if bytes.starts_with(&[239u8, 187, 191]) {
+        &bytes[3..]
+    } else {
+        bytes
+    }
+}

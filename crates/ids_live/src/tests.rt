@@ -1,0 +1,240 @@
+use crate::run_serial;
+use ifc_base::{Bytes, Memory, Name, Numbers};
+use shelf_io::{MemShelf, MemSink, ShelfFile};
+use std::alloc::Global;
+use std::test::Fail;
+
+/// Specifications of one entity in the applicability and one in the requirement.
+const WALLS: &str =
+    "{\"specifications\":[{\"name\":\"walls\",\"ifcVersion\":[\"IFC4\"],\n\"applicability\":{\"minOccurs\":\"0\",\"maxOccurs\":\"unbounded\",\"facets\":[{\"facet\":\"entity\",\"name\":{\"simpleValue\":\"IFCWALL\"}}]},\n\"requirements\":[{\"facet\":\"entity\",\"name\":{\"simpleValue\":\"IFCWALL\"}}]}]}\n";
+
+const GROUPS: &str =
+    "{\"specifications\":[{\"name\":\"walls\",\"ifcVersion\":[\"IFC4\"],\n\"applicability\":{\"minOccurs\":\"0\",\"maxOccurs\":\"unbounded\",\"facets\":[{\"facet\":\"entity\",\"name\":{\"simpleValue\":\"IFCWALL\"}}]},\n\"requirements\":[{\"facet\":\"entity\",\"name\":{\"simpleValue\":\"IFCGROUP\"}}]}]}\n";
+
+const HEADER: &str =
+    "ISO-10303-21;\nHEADER;\nFILE_DESCRIPTION((''),'2;1');\nFILE_NAME('','',(''),(''),'','','');\nFILE_SCHEMA(('IFC4'));\nENDSEC;\nDATA;\n";
+
+const TWO_WALLS: &str =
+    "#10=IFCWALL('a',$,'W01',$,$,$,$,$,$);\n#11=IFCWALL('b',$,'W02',$,$,$,$,$,$);\n";
+
+const STANDARD_CASES: &str =
+    "#10=IFCWALLSTANDARDCASE('a',$,'W01',$,$,$,$,$,$);\n#11=IFCWALLSTANDARDCASE('b',$,'W02',$,$,$,$,$,$);\n";
+
+const FOOT: &str = "ENDSEC;\nEND-ISO-10303-21;\n";
+
+const PASS: &str = "report 0\nspec 1 pass applicable 2 failed 0\nend pass\n";
+
+fn bytes(alloc: Global, text: &str) -> Result<Bytes, Memory> {
+    Ok(Bytes::from_vec(Vec::from_slice(alloc, text.as_bytes())?))
+}
+
+fn file(alloc: Global, name: &str, text: &str, failing: &[u32]) -> Result<ShelfFile, Memory> {
+    Ok(ShelfFile {
+        name: Name::from_str(alloc, name)?,
+        bytes: bytes(alloc, text)?,
+        reads: 0,
+        failing: Numbers::from_vec(Vec::from_slice(alloc, failing)?),
+    })
+}
+
+/// The model file of these instance lines.
+fn model(alloc: Global, lines: &str) -> Result<String, Memory> {
+    let mut text = String::from_str(alloc, HEADER)?;
+    text.push_str(lines)?;
+    text.push_str(FOOT)?;
+    Ok(text)
+}
+
+/// Four files, S, Q, M and T; the reads of these numbers of one of them fail.
+fn shelf(
+    alloc: Global,
+    specs: &str,
+    model: &str,
+    script: &str,
+    failing: (&str, &[u32]),
+) -> Result<MemShelf, Memory> {
+    let mut files = Vec::new(alloc);
+    for (name, text) in [("S", "any"), ("Q", specs), ("M", model), ("T", script)] {
+        let numbers: &[u32] = if name == failing.0 { failing.1 } else { &[] };
+        files.push(file(alloc, name, text, numbers)?)?;
+    }
+    Ok(MemShelf::new(files))
+}
+
+fn words(alloc: Global, given: &[&str]) -> Result<Vec<String>, Memory> {
+    let mut words = Vec::new(alloc);
+    for word in given {
+        words.push(String::from_str(alloc, word)?)?;
+    }
+    Ok(words)
+}
+
+const REPLAY: [&str; 5] = ["replay", "S", "Q", "M", "T"];
+
+#[test]
+fn runs_end_as_told(rt: HostRuntime) -> Result<(), Fail> {
+    let walls = model(rt.alloc(), TWO_WALLS)?;
+    let cases = model(rt.alloc(), STANDARD_CASES)?;
+    let none = model(rt.alloc(), "")?;
+    let twice = model(rt.alloc(), "#10=IFCWALL('a');\n#10=IFCWALL('a');\n")?;
+    let failed = "report 0\nspec 1 fail applicable 2 failed 2\nfail #10 1\nfail #11 1\nend fail\n";
+    let nothing = "report 0\nspec 1 pass applicable 0 failed 0\nend pass\n";
+    let rows = [
+        (
+            "two_walls_pass",
+            WALLS,
+            walls.as_str(),
+            "sync\n",
+            0,
+            PASS,
+            6,
+        ),
+        (
+            "a mark is skipped",
+            "\u{feff}{}",
+            walls.as_str(),
+            "\u{feff}sync",
+            2,
+            "refused specs spec 0 place 0 NotBuilt\n",
+            0,
+        ),
+        (
+            "subclass_is_not_matched",
+            WALLS,
+            cases.as_str(),
+            "sync",
+            0,
+            nothing,
+            2,
+        ),
+        (
+            "groups are asked for",
+            GROUPS,
+            walls.as_str(),
+            "sync",
+            1,
+            failed,
+            6,
+        ),
+        (
+            "nothing to audit",
+            GROUPS,
+            none.as_str(),
+            "\u{feff}sync\n",
+            0,
+            nothing,
+            2,
+        ),
+        (
+            "no JSON",
+            "{\"specifications\":[",
+            "",
+            "",
+            2,
+            "refused specs spec 0 place 0 Json\n",
+            0,
+        ),
+        (
+            "an id twice",
+            WALLS,
+            twice.as_str(),
+            "",
+            2,
+            "refused model line 9 NotBuilt\n",
+            0,
+        ),
+        (
+            "an empty model",
+            WALLS,
+            "",
+            "",
+            2,
+            "refused model line 1 NotBuilt\n",
+            0,
+        ),
+        (
+            "two syncs",
+            WALLS,
+            walls.as_str(),
+            "sync\nsync\n",
+            2,
+            "refused script line 1 NotBuilt\n",
+            0,
+        ),
+    ];
+    for (name, specs, model, script, status, text, entries) in rows {
+        let mut shelf = shelf(rt.alloc(), specs, model, script, ("", &[]))?;
+        let mut sink = MemSink::new(rt.alloc(), 200, 7, Numbers::new(rt.alloc()))?;
+        let words = words(rt.alloc(), &REPLAY)?;
+        let ended = run_serial(rt.alloc(), &words, &mut shelf, &mut sink);
+        assert_eq!(rt; ended.status, status, "{name}");
+        assert_eq!(rt; sink.bytes(), text.as_bytes(), "{name}");
+        assert_eq!(rt; ended.journal.as_slice().len(), entries, "{name}");
+    }
+    Ok(())
+}
+
+#[test]
+fn words_not_taken(rt: HostRuntime) -> Result<(), Fail> {
+    let rows: [&[&str]; 4] = [
+        &["replay", "S", "Q", "M"],
+        &["live", "S", "Q", "M", "T"],
+        &["replay", "S", "Q", "M", "T", "T"],
+        &[],
+    ];
+    for given in rows {
+        let mut shelf = shelf(rt.alloc(), WALLS, "", "", ("S", &[1]))?;
+        let mut sink = MemSink::new(rt.alloc(), 0, 1, Numbers::new(rt.alloc()))?;
+        let words = words(rt.alloc(), given)?;
+        let ended = run_serial(rt.alloc(), &words, &mut shelf, &mut sink);
+        assert_eq!(rt; ended.status, 6);
+    }
+    Ok(())
+}
+
+/// Each input's first read fails; the model's second too, which finds the end.
+#[test]
+fn shelf_fails(rt: HostRuntime) -> Result<(), Fail> {
+    let walls = model(rt.alloc(), TWO_WALLS)?;
+    for (name, number) in [
+        ("S", 1u32),
+        ("Q", 1),
+        ("M", 1),
+        ("M", 2),
+        ("T", 1),
+        ("T", 2),
+    ] {
+        let mut shelf = shelf(rt.alloc(), WALLS, walls.as_str(), "sync", (name, &[number]))?;
+        let mut sink = MemSink::new(rt.alloc(), 200, 200, Numbers::new(rt.alloc()))?;
+        let words = words(rt.alloc(), &REPLAY)?;
+        let ended = run_serial(rt.alloc(), &words, &mut shelf, &mut sink);
+        assert_eq!(rt; ended.status, 3, "{name} {number}");
+        assert!(rt; sink.bytes().is_empty() && ended.journal.as_slice().is_empty());
+    }
+    Ok(())
+}
+
+/// Calls that fail, by number, of sinks that take 1, 7, 10 and all bytes a call.
+#[test]
+fn sink_fails(rt: HostRuntime) -> Result<(), Fail> {
+    let walls = model(rt.alloc(), TWO_WALLS)?;
+    let rows = [
+        (1, 1, 0),
+        (1, 52, 51),
+        (7, 3, 14),
+        (10, 2, 10),
+        (10, 6, 50),
+        (200, 1, 0),
+    ];
+    for (most, number, written) in rows {
+        let mut shelf = shelf(rt.alloc(), WALLS, walls.as_str(), "sync", ("", &[]))?;
+        let failing = Numbers::from_vec(vec![in rt.alloc(); number as u32]?);
+        let mut sink = MemSink::new(rt.alloc(), 200, most, failing)?;
+        let words = words(rt.alloc(), &REPLAY)?;
+        let ended = run_serial(rt.alloc(), &words, &mut shelf, &mut sink);
+        assert_eq!(rt; ended.status, 4, "{most} {number}");
+        assert_eq!(rt; Some(sink.bytes()), PASS.as_bytes().get(..written));
+        assert_eq!(rt; ended.journal.as_slice().len(), 6);
+    }
+    Ok(())
+}

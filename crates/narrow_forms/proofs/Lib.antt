@@ -1,0 +1,10 @@
+pub mod Tools
+pub mod CutLemmas
+pub mod LineLemmas
+pub mod ModelLemmas
+pub mod LineLaws
+pub mod FileLaws
+pub mod MemberLemmas
+pub mod FormLemmas
+pub mod NamesLemmas
+pub mod ReadingLemmas

@@ -1,0 +1,9 @@
+pub mod Lines
+pub mod InstanceLine
+pub mod Model
+pub mod ModelFile
+pub mod Answers
+pub mod Script
+pub mod Members
+pub mod SpecificationForm
+pub mod Specifications

@@ -1,0 +1,30 @@
+use Rattle.std.proofs.Common.{rules, ◌∙◌}
+use Rattle.std.specs.Str.{chars}
+use Rattle.shelf_io.proofs.Progress.{read_step, front_whole, front_full, piece_at, IfSome-from_ForSome, missing_stays}
+use Rattle.shelf_io.proofs.whole.read_by.Goals as goal
+use Rattle.shelf_io.proofs.whole.read_by.Goals.{else-loop-bytes-test, then-loop-bytes-test+in-Ok+then-count-eq0}
+
+pub loop-bytes-preserved : goal.loop-bytes-preserved
+loop-bytes-preserved g c = record {
+  same = search rules;
+  bound = search rules;
+  front = λ all e.
+      let piece = piece_at (g.S.Shelf.held c.args.shelf.now) (g.S.Shelf.held c.loop-bytes.shelf) (chars c.args.name.now) all
+      c.len-in-loop-bytes-2.result c.in-Ok.count c.read_at.new.into c.loop-bytes.invariant.same e c.in-Ok.ensures.bytes in
+      read_step all c.loop-bytes.bytes.items c.extend_from_slice.new.self.items c.read_at.new.into _ c.len-in-loop-bytes-2.result c.in-Ok.count
+      (c.loop-bytes.invariant.front all e) piece (search rules) c.in-Ok.ensures.bound c.in_ok-extend_from_slice.ensures.items;
+  missing = λ m. let failed = c.in-Ok.ensures.missing (missing_stays _ _ _ c.loop-bytes.invariant.same m) in absurd (cc);
+  calm = search rules;
+  steady = λ h. c.in-Ok.ensures.steady (c.loop-bytes.invariant.steady h);
+}
+
+pub returns-clause-bytes : goal.returns-clause-bytes
+returns-clause-bytes g c = elim c.loop-bytes-test.branch [
+  | else-loop-bytes-test w ↦ IfSome-from_ForSome _ _ (λ all e.
+      c.from_vec.ensures ∙ front_full all c.loop-bytes.bytes.items c.args.most (c.loop-bytes.invariant.front all e) (search rules))
+  | then-loop-bytes-test+in-Ok+then-count-eq0 w ↦ IfSome-from_ForSome _ _ (λ all e.
+      let piece = piece_at (g.S.Shelf.held c.args.shelf.now) (g.S.Shelf.held c.loop-bytes.shelf) (chars c.args.name.now) all
+      w.len-in-loop-bytes-2.result w.in-Ok.count w.read_at.new.into c.loop-bytes.invariant.same e w.in-Ok.ensures.bytes in
+      c.from_vec.ensures ∙ front_whole all c.loop-bytes.bytes.items c.args.most (c.loop-bytes.invariant.front all e)
+      (let ended = piece.ended (search rules) w.if-count-eq0.true in search rules) c.loop-bytes.invariant.bound)
+]

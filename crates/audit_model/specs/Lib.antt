@@ -3,6 +3,14 @@ pub mod Restrictions
 pub mod Facets
 pub mod Verdicts
 pub mod Pairs
+pub mod Specifications
 pub mod Scratch
 pub mod Report
-pub mod Specifications
+pub mod Edits
+pub mod Keys
+pub mod Needs
+pub mod Judging
+pub mod History
+pub mod Machine
+pub mod Laws
+pub mod Drain

@@ -5,6 +5,7 @@
 
 mod commit;
 mod facet;
+mod laws;
 mod order;
 mod report;
 mod restriction;
@@ -17,11 +18,16 @@ pub use facet::{
     AttributeFacet, ClassificationFacet, EntityFacet, Facet, Facets, MaterialFacet, PartOfFacet,
     PropertyFacet, Relation,
 };
+pub use laws::{
+    calls_determine, dangling_is_least, drain_follows, drain_of_file, earlier_models_stay,
+    last_change_is_last, models_ascend, needs_cover_verdict, one_reply, pairs_ascend,
+    refused_changes_nothing, settled_by_delivery, settled_is_pair,
+};
 pub use order::in_order;
 pub use report::{Failing, Failings, ReportText, Tally, Texts};
 pub use restriction::Restriction;
 pub use specification::{
     Cardinality, Occurs, Requirement, Requirements, Specification, Specifications,
 };
-pub use step::{Call, Journal, Limits, Reply, StepRec};
+pub use step::{Call, Given, Journal, Limits, Reply, StepRec};
 pub use verdict::{Pair, Verdict, Weighed};

@@ -69,6 +69,15 @@ pub struct StepRec {
     pub reply: Reply,
 }
 
+/// A claim that was given: its number, the actor to whom, and the pair and the revision to evaluate.
+#[derive(Clone, Copy, Debug, PartialEq, Eq)]
+pub struct Given {
+    pub number: u64,
+    pub actor: u32,
+    pub pair: Pair,
+    pub revision: u32,
+}
+
 /// Entries in the order in which they were made.
 pub type Journal = Listed<StepRec>;
 

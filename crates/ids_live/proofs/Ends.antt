@@ -1,5 +1,5 @@
 -- The ends of a run.
-use Rattle.std.proofs.Common.{◌≡◌, ℕ, ◌+◌, List, [], ◌∷◌, ◌++◌, length, length-append, take, drop, ◌-◌, codes, Bool, true, false, Option, Result, Ok, Err, refl, ap, sym, ◌∙◌, arith, rules}
+use Rattle.std.proofs.Common.{◌≡◌, ℕ, ◌+◌, reverse, List, [], ◌∷◌, ◌++◌, length, length-append, take, drop, ◌-◌, codes, Bool, true, false, Option, Result, Ok, Err, refl, ap, sym, ◌∙◌, arith, rules}
 use Rattle.std.specs.Prelude.{if◌then◌else◌, Some, None, IfSome}
 use Rattle.std.proofs.lemmas.List.{take_all}
 use Rattle.std.proofs.Math.Seq.{drop-append_seam}
@@ -16,16 +16,19 @@ use Rattle.std.specs.Fmt.{decimal}
 use Rattle.ids_live.specs.declared.ending.Ended.{Ended}
 use Rattle.ids_live.specs.declared.refused.Refused.{Refused}
 use Rattle.ids_live.specs.declared.load.Loaded.{Loaded}
-use Rattle.ids_live.specs.Drain.{drain, turns_from, closing}
+use Rattle.audit_model.specs.Drain.{drain_from, DrainOfFile}
+use Rattle.audit_model.specs.Machine.{Legal}
+use Rattle.ids_live.specs.Drain.{drain}
+use Rattle.ids_live.specs.Fitness.{IsFit}
 use Rattle.ids_live.specs.Lines.{refused_line}
-use Rattle.ids_live.specs.Steps.{serial, output, ends_pass, IsStopped}
+use Rattle.ids_live.specs.Steps.{ground_of, serial, output, ends_pass, IsStopped}
 use Rattle.ids_live.specs.Words.{Command}
 use Rattle.ids_live.specs.Inputs.{Inputs, loaded_of}
 use Rattle.ids_live.specs.Complete.{wanted}
 use Rattle.ids_live.specs.Run.{At, IsEndOf, IsRun, is_among}
 
 -- the turns have no text, and the end of the drain has that of the report
-text_drain : (l : Loaded) (n : ℕ) (ps : List Pair) → output l (turns_from n ps ++ closing) ≡ audit_text l.specs l.model 0
+text_drain : (l : Loaded) (n : ℕ) (ps : List Pair) → output l (drain_from n 0 ps) ≡ audit_text l.specs l.model 0
 unfolding output
 text_drain l n [] = grind (arith, common_steps)
 text_drain l n (p ∷ ps) = text_drain l (n + 1) ps
@@ -48,11 +51,17 @@ pub whole_stopped : (whole steps : List StepRec) → steps ≡ whole → IsStopp
 unfolding IsStopped
 whole_stopped whole steps h = (length whole, rw h (sym (take_all (length whole) whole (omega arith))))
 
+-- the drain of what was loaded is a legal history
+pub serial_legal : (l : Loaded) → IsFit l → DrainOfFile → Legal (ground_of l) (reverse (serial l))
+unfolding serial
+serial_legal l fit law = (law (ground_of l) fit.specs.numbered fit.model).1
+
 -- an end without a step, where no more is said at its status than that nothing was written
 pub early_end : (read : Result Loaded Refused) (old new : Option (List ℕ)) (e : Ended) → e.journal ≡ [] → e.status ≡ 5 → new ≡ old → IsEndOf read old new e
 early_end read old new e none five same = record {
   all_read = rw five tt;
   history = rw five tt;
+  legal = rw five tt;
   text = rw five tt;
   verdict = rw five tt;
   refusal = rw five tt;
@@ -64,6 +73,7 @@ pub shelf_end : (read : Result Loaded Refused) (old new : Option (List ℕ)) (e 
 shelf_end read old new e three = record {
   all_read = rw three tt;
   history = rw three tt;
+  legal = rw three tt;
   text = rw three tt;
   verdict = rw three tt;
   refusal = rw three tt;
@@ -72,26 +82,28 @@ shelf_end read old new e three = record {
 }
 
 -- all was done
-pub done_end : (l : Loaded) (old new : Option (List ℕ)) (e : Ended) (text : List ℕ) → e.journal ≡ drain l.specs l.model → text ≡ audit_text l.specs l.model 0 → Appended old new text
+pub done_end : (l : Loaded) (old new : Option (List ℕ)) (e : Ended) (text : List ℕ) → Legal (ground_of l) (reverse (serial l)) → e.journal ≡ drain l.specs l.model → text ≡ audit_text l.specs l.model 0 → Appended old new text
     → (passes : Bool) → passes ≡ ends_pass text → e.status ≡ (if passes then 0 else 1) → IsEndOf (Ok l) old new e
-done_end l old new e text steps is written true passes status =
+done_end l old new e text lawful steps is written true passes status =
     let told : e.journal ≡ serial l = serial_is l e.journal steps in
     let all : text ≡ output l e.journal = is ∙ sym (output_serial l) ∙ ap (output l) (sym told) in
     record {
       all_read = rw status refl;
       history = rw status told;
+      legal = rw (status, told) lawful;
       text = rw status (rw all at written);
       verdict = rw status (rw (← all, ← passes) refl);
       refusal = rw status tt;
       sink = rw status tt;
       memory = rw status tt;
     }
-done_end l old new e text steps is written false passes status =
+done_end l old new e text lawful steps is written false passes status =
     let told : e.journal ≡ serial l = serial_is l e.journal steps in
     let all : text ≡ output l e.journal = is ∙ sym (output_serial l) ∙ ap (output l) (sym told) in
     record {
       all_read = rw status refl;
       history = rw status told;
+      legal = rw (status, told) lawful;
       text = rw status (rw all at written);
       verdict = rw status (rw (← all, ← passes) refl);
       refusal = rw status tt;
@@ -108,6 +120,7 @@ cut_end l old new e text n steps is written status =
     record {
       all_read = rw status tt;
       history = rw status tt;
+      legal = rw status tt;
       text = rw status tt;
       verdict = rw status tt;
       refusal = rw status tt;
@@ -123,6 +136,7 @@ pub refused_end : (refused : Refused) (old new : Option (List ℕ)) (e : Ended) 
 refused_end refused old new e none written status = record {
   all_read = rw status tt;
   history = rw status tt;
+  legal = rw status tt;
   text = rw status tt;
   verdict = rw status tt;
   refusal = rw status (none, written);
@@ -135,6 +149,7 @@ pub refused_cut : (refused : Refused) (old new : Option (List ℕ)) (e : Ended) 
 refused_cut refused old new e n none written status = record {
   all_read = rw status tt;
   history = rw status tt;
+  legal = rw status tt;
   text = rw status tt;
   verdict = rw status tt;
   refusal = rw status tt;

@@ -1,5 +1,5 @@
 -- The turns of the pairs of specifications.
-use Rattle.std.proofs.Common.{◌≡◌, ℕ, ◌+◌, ◌*◌, ◌<◌, ◌≤◌, Bool, true, false, List, [], ◌∷◌, ◌++◌, map, filter, length, refl, ap, sym, ◌∙◌, arith, subst, append_assoc}
+use Rattle.std.proofs.Common.{◌≡◌, ℕ, ◌+◌, ◌*◌, ◌<◌, ◌≤◌, Bool, true, false, List, [], ◌∷◌, ◌++◌, map, filter, length, refl, ap, sym, ◌∙◌, arith, subst, append_assoc, append-nil}
 use Rattle.std.specs.Prelude.{if◌then◌else◌}
 use Rattle.std.proofs.lemmas.List.{length-map}
 use Rattle.std.proofs.lemmas.Grind.{common_steps}
@@ -8,6 +8,9 @@ use Rattle.audit_model.specs.declared.specification.Specification.{Specification
 use Rattle.audit_model.specs.declared.step.StepRec.{StepRec}
 use Rattle.audit_model.specs.declared.verdict.Pair.{Pair}
 use Rattle.audit_model.specs.Pairs.{may_apply, pairs, pairs_of}
+use Rattle.audit_model.specs.declared.step.Call.TheVariants as call
+use Rattle.audit_model.specs.declared.step.Reply.TheVariants as reply
+use Rattle.audit_model.specs.Drain.{caller_entry, drain_from}
 use Rattle.ids_live.specs.Drain.{turns_from}
 
 -- the pairs of the specification with these instances
@@ -75,3 +78,15 @@ few_pairs q m = by_case q.for_model
 
 pub next_bound : (number next at : ℕ) (q : Specification) (m : List Instance) → number ≤ 1 + at * length m → next ≡ number + length (pairs_of q m) → next ≤ 1 + (at + 1) * length m
 next_bound number next at q m bound is = let few = few_pairs q m in grind (arith, few)
+
+-- the turns of all pairs, and then the end of the drain
+turns_closed : (ps : List Pair) (n : ℕ) → turns_from n ps ++ caller_entry call.Claim reply.Idle ∷ caller_entry call.Publish (reply.Report 0) ∷ [] ≡ drain_from n 0 ps
+turns_closed [] n = refl
+turns_closed (p ∷ ps) n = rw (turns_closed ps (n + 1)) refl
+
+pub drain_made : (ps : List Pair) (steps idle all : List StepRec) → steps ++ [] ≡ turns_from 1 ps → idle ≡ steps ++ caller_entry call.Claim reply.Idle ∷ []
+    → all ≡ idle ++ caller_entry call.Publish (reply.Report 0) ∷ [] → all ≡ drain_from 1 0 ps
+drain_made ps steps idle all whole first last =
+    let turns : steps ≡ turns_from 1 ps = sym (append-nil steps) ∙ whole in
+    last ∙ ap (λ es. es ++ caller_entry call.Publish (reply.Report 0) ∷ []) (first ∙ ap (λ es. es ++ caller_entry call.Claim reply.Idle ∷ []) turns)
+    ∙ append_assoc (turns_from 1 ps) (caller_entry call.Claim reply.Idle ∷ []) (caller_entry call.Publish (reply.Report 0) ∷ []) ∙ turns_closed ps 1

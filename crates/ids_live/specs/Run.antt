@@ -1,9 +1,10 @@
 -- What a run leaves, clause by clause.
-use Rattle.std.specs.Prelude.{◌≡◌, ◌==◌, ℕ, ◌≤◌, Bool, List, [], ◌∷◌, length, Option, Result, IsOk, IfOk, MatchResult, ⊤, if◌then◌else◌}
+use Rattle.std.specs.Prelude.{◌≡◌, ◌==◌, ℕ, ◌≤◌, Bool, List, [], ◌∷◌, length, Option, Result, IsOk, IfOk, MatchResult, reverse, ⊤, if◌then◌else◌}
 use Rattle.std.specs.Bool.{OnTrue}
 use Rattle.std.specs.List.{list_any}
 use Rattle.shelf_io.specs.Causes.{Rose}
 use Rattle.shelf_io.specs.Pieces.{Files, Appended}
+use Rattle.audit_model.specs.Machine.{Legal}
 use Rattle.audit_model.specs.declared.step.StepRec.{StepRec}
 use Rattle.ids_live.specs.declared.ending.Ended.{Ended}
 use Rattle.ids_live.specs.declared.refused.Refused.{Refused}
@@ -11,7 +12,7 @@ use Rattle.ids_live.specs.declared.load.Loaded.{Loaded}
 use Rattle.ids_live.specs.Words.{Command}
 use Rattle.ids_live.specs.Inputs.{Inputs, AreHeld, loaded_of}
 use Rattle.ids_live.specs.Lines.{refused_line}
-use Rattle.ids_live.specs.Steps.{serial, output, ends_pass, IsStopped, IsFrontWritten, IsCutWritten}
+use Rattle.ids_live.specs.Steps.{ground_of, serial, output, ends_pass, IsStopped, IsFrontWritten, IsCutWritten}
 
 -- the status is one of these
 abbrev pub is_among : List ℕ → ℕ → Bool
@@ -37,6 +38,8 @@ pub record IsEndOf (loading : Result Loaded Refused) (old new : Option (List ℕ
   pub all_read : At (0 ∷ 1 ∷ []) ended.status (IsOk loading)
   -- the history is the one that the inputs make
   pub history : At (0 ∷ 1 ∷ []) ended.status (IfOk loading (λ l. ended.journal ≡ serial l))
+  -- which is legal: each reply is the one that the entries before it give
+  pub legal : At (0 ∷ 1 ∷ []) ended.status (IfOk loading (λ l. Legal (ground_of l) (reverse ended.journal)))
   -- its text was written
   pub text : At (0 ∷ 1 ∷ []) ended.status (IfOk loading (λ l. Appended old new (output l ended.journal)))
   -- the status is 0 exactly where the text ends with `end pass`, else 1

@@ -5,13 +5,18 @@ use Rattle.shelf_io.specs.Pieces.{Appended}
 use Rattle.audit_model.specs.declared.step.Reply.{Reply}
 use Rattle.audit_model.specs.declared.step.Reply.TheVariants.{Report}
 use Rattle.audit_model.specs.declared.step.StepRec.{StepRec}
+use Rattle.audit_model.specs.History.{Ground}
 use Rattle.audit_model.specs.Report.{audit_text}
 use Rattle.ids_live.specs.declared.load.Loaded.{Loaded}
 use Rattle.ids_live.specs.Drain.{drain}
 
--- the history that the inputs make: one drain of the first revision
+-- the history that the inputs make: one drain of the model that was read
 unfoldable pub serial : Loaded → List StepRec
 serial l = drain l.specs l.model
+
+-- the ground of the history: nothing of it changes in a run
+abbrev pub ground_of : Loaded → Ground
+ground_of l = record { specs = l.specs; first = l.model; limits = record { steps = 16777216; revisions = 100000; instances = 2000000 } }
 
 -- A report is the audit of the model from scratch; no other reply has a text.
 abbrev pub told : Loaded → Reply → List ℕ

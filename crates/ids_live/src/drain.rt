@@ -6,7 +6,7 @@ ghost use Rattle.audit_model.specs.Pairs.{pairs, pairs_of};
 ghost use Rattle.audit_model.specs.Scratch.{scratch, tally, applies, failing_of};
 ghost use Rattle.audit_model.specs.Specifications.{AreSpecifications, HaveFewFacets};
 ghost use Rattle.audit_model.specs.Verdicts.{verdict_of};
-ghost use Rattle.ids_live.specs.Drain.{drain, turns_from, closing};
+ghost use Rattle.ids_live.specs.Drain.{drain, turns_from};
 
 use crate::evaluate::{may_apply, verdict};
 use audit_model::{
@@ -81,8 +81,10 @@ fn count_in(
 ) -> Result<(), Memory>
     requires facets { length q.now.requirements < 2 ^ 32 - 1 }
     requires few { applicable.old < 2 ^ 32 - 1 }
-    ensures applicable { OnOk result (applicable.new ≡ (if applies (verdict_of q.now x.now.id (x.now ∷ [])) then applicable.old + 1 else applicable.old)) }
-    ensures failing { OnOk result (failing.new.items ≡ failing.old.items ++ option_to_list (failing_of q.now.occurs x.now.id (verdict_of q.now x.now.id (x.now ∷ [])))) }
+    ensures applicable { OnOk result (applicable.new ≡ (if applies (verdict_of q.now x.now.id (x.now
+        ∷ [])) then applicable.old + 1 else applicable.old)) }
+    ensures failing { OnOk result (failing.new.items ≡ failing.old.items ++ option_to_list
+        (failing_of q.now.occurs x.now.id (verdict_of q.now x.now.id (x.now ∷ [])))) }
 {
     if let Verdict::Applicable(requirements) = verdict(alloc, q, x)? {
         *applicable += 1;

@@ -37,8 +37,10 @@ pub struct Loaded {
 
 /// Reads the inputs in their order, up to the first that is refused.
 pub fn load<S: Shelf>(alloc: Global, shelf: &mut S, names: Names) -> Result<Loaded, Stop>
-    ensures shelf { LeavesShelf (S.held shelf.old) (S.held shelf.new) (S.faults shelf.old) (S.faults shelf.new) result }
-    ensures steady { StaysSteady (S.steady shelf.old) (S.steady shelf.new) (S.faults shelf.old) (S.faults shelf.new) (inputs_told (S.held shelf.old) (command_shown names.entry) ≡ None) result }
+    ensures shelf { LeavesShelf (S.held shelf.old) (S.held shelf.new) (S.faults shelf.old)
+        (S.faults shelf.new) result }
+    ensures steady { StaysSteady (S.steady shelf.old) (S.steady shelf.new) (S.faults shelf.old)
+        (S.faults shelf.new) (inputs_told (S.held shelf.old) (command_shown names.entry) ≡ None) result }
     ensures reads { Reads (AreHeld (S.held shelf.old) (command_shown names.entry)) loaded_of result }
     ensures fit { IfOk result IsFit }
 {
@@ -51,8 +53,10 @@ pub fn load<S: Shelf>(alloc: Global, shelf: &mut S, names: Names) -> Result<Load
 
 /// The schema, of which only the length is looked at so far.
 fn load_schema<S: Shelf>(alloc: Global, shelf: &mut S, name: &str) -> Result<(), Stop>
-    ensures shelf { LeavesShelf (S.held shelf.old) (S.held shelf.new) (S.faults shelf.old) (S.faults shelf.new) result }
-    ensures steady { StaysSteady (S.steady shelf.old) (S.steady shelf.new) (S.faults shelf.old) (S.faults shelf.new) (input_told (S.held shelf.old) name.now limit ≡ None) result }
+    ensures shelf { LeavesShelf (S.held shelf.old) (S.held shelf.new) (S.faults shelf.old)
+        (S.faults shelf.new) result }
+    ensures steady { StaysSteady (S.steady shelf.old) (S.steady shelf.new) (S.faults shelf.old)
+        (S.faults shelf.new) (input_told (S.held shelf.old) name.now limit ≡ None) result }
     ensures reads { Reads (IsHeld (S.held shelf.old) name.now limit) schema_read result }
 {
     match whole_input(alloc, shelf, name, LIMIT)? {
@@ -62,8 +66,10 @@ fn load_schema<S: Shelf>(alloc: Global, shelf: &mut S, name: &str) -> Result<(),
 }
 
 fn load_specs<S: Shelf>(alloc: Global, shelf: &mut S, name: &str) -> Result<Specifications, Stop>
-    ensures shelf { LeavesShelf (S.held shelf.old) (S.held shelf.new) (S.faults shelf.old) (S.faults shelf.new) result }
-    ensures steady { StaysSteady (S.steady shelf.old) (S.steady shelf.new) (S.faults shelf.old) (S.faults shelf.new) (input_told (S.held shelf.old) name.now limit ≡ None) result }
+    ensures shelf { LeavesShelf (S.held shelf.old) (S.held shelf.new) (S.faults shelf.old)
+        (S.faults shelf.new) result }
+    ensures steady { StaysSteady (S.steady shelf.old) (S.steady shelf.new) (S.faults shelf.old)
+        (S.faults shelf.new) (input_told (S.held shelf.old) name.now limit ≡ None) result }
     ensures reads { Reads (IsHeld (S.held shelf.old) name.now limit) specs_read result }
     ensures fit { IfOk result AreSpecifications }
 {
@@ -78,8 +84,10 @@ fn load_specs<S: Shelf>(alloc: Global, shelf: &mut S, name: &str) -> Result<Spec
 }
 
 fn load_model<S: Shelf>(alloc: Global, shelf: &mut S, name: &str) -> Result<Instances, Stop>
-    ensures shelf { LeavesShelf (S.held shelf.old) (S.held shelf.new) (S.faults shelf.old) (S.faults shelf.new) result }
-    ensures steady { StaysSteady (S.steady shelf.old) (S.steady shelf.new) (S.faults shelf.old) (S.faults shelf.new) (input_told (S.held shelf.old) name.now model_limit ≡ None) result }
+    ensures shelf { LeavesShelf (S.held shelf.old) (S.held shelf.new) (S.faults shelf.old)
+        (S.faults shelf.new) result }
+    ensures steady { StaysSteady (S.steady shelf.old) (S.steady shelf.new) (S.faults shelf.old)
+        (S.faults shelf.new) (input_told (S.held shelf.old) name.now model_limit ≡ None) result }
     ensures reads { Reads (IsHeld (S.held shelf.old) name.now model_limit) model_read result }
     ensures ascending { IfOk result IsModel }
     ensures few { IfOk result (λ model. length model < 2 ^ 32) }
@@ -98,8 +106,10 @@ fn load_model<S: Shelf>(alloc: Global, shelf: &mut S, name: &str) -> Result<Inst
 }
 
 fn load_script<S: Shelf>(alloc: Global, shelf: &mut S, name: &str) -> Result<(), Stop>
-    ensures shelf { LeavesShelf (S.held shelf.old) (S.held shelf.new) (S.faults shelf.old) (S.faults shelf.new) result }
-    ensures steady { StaysSteady (S.steady shelf.old) (S.steady shelf.new) (S.faults shelf.old) (S.faults shelf.new) (input_told (S.held shelf.old) name.now limit ≡ None) result }
+    ensures shelf { LeavesShelf (S.held shelf.old) (S.held shelf.new) (S.faults shelf.old)
+        (S.faults shelf.new) result }
+    ensures steady { StaysSteady (S.steady shelf.old) (S.steady shelf.new) (S.faults shelf.old)
+        (S.faults shelf.new) (input_told (S.held shelf.old) name.now limit ≡ None) result }
     ensures reads { Reads (IsHeld (S.held shelf.old) name.now limit) script_read result }
 {
     let Some(bytes) = whole_input(alloc, shelf, name, LIMIT)? else {
@@ -120,8 +130,10 @@ fn whole_input<S: Shelf>(
     most: usize,
 ) -> Result<Option<Bytes>, Stop>
     requires { most < 1000000000 }
-    ensures shelf { LeavesShelf (S.held shelf.old) (S.held shelf.new) (S.faults shelf.old) (S.faults shelf.new) result }
-    ensures steady { StaysSteady (S.steady shelf.old) (S.steady shelf.new) (S.faults shelf.old) (S.faults shelf.new) (input_told (S.held shelf.old) name.now most ≡ None) result }
+    ensures shelf { LeavesShelf (S.held shelf.old) (S.held shelf.new) (S.faults shelf.old)
+        (S.faults shelf.new) result }
+    ensures steady { StaysSteady (S.steady shelf.old) (S.steady shelf.new) (S.faults shelf.old)
+        (S.faults shelf.new) (input_told (S.held shelf.old) name.now most ≡ None) result }
     ensures held { IfOk result (IsHeld (S.held shelf.old) name.now most) }
     ensures outside { IfErr result IsOutside }
 {

@@ -8,7 +8,7 @@ use crate::drain::audit;
 use crate::ending::Ended;
 use crate::load::Loaded;
 use crate::refused::{Refused, refused_line};
-use audit_model::Journal;
+use audit_model::{Journal, drain_of_file};
 use report_text::{passes, render_report};
 use shelf_io::{Sink, write_all};
 use std::alloc::Global;
@@ -22,6 +22,7 @@ pub fn play<K: Sink>(alloc: Global, out: &mut K, loaded: &Loaded) -> Ended
     ensures sure { At (4 ∷ []) result.status (K.sure out.old (length (wanted (Ok loaded.now))) → ⊥) }
     ensures lapsed { result.lapsed ≡ 0 }
 {
+    drain_of_file();
     let Ok(audited) = audit(alloc, loaded.specs.as_slice(), loaded.model.as_slice()) else {
         return ended(alloc, 5);
     };

@@ -42,7 +42,8 @@ pub fn refused_line(alloc: Global, refused: Refused) -> Result<Bytes, Memory>
 }
 
 fn push_too_long(line: &mut Vec<u8>, input: Input) -> Result<(), Memory>
-    ensures { OnOk result (line.new.items ≡ line.old.items ++ (codes "refused " ++ input_word input ++ codes " TooLong\n")) }
+    ensures { OnOk result (line.new.items ≡ line.old.items ++
+        (codes "refused " ++ input_word input ++ codes " TooLong\n")) }
 {
     push_text(line, "refused ")?;
     push_text(line, input_word(input))?;
@@ -50,7 +51,8 @@ fn push_too_long(line: &mut Vec<u8>, input: Input) -> Result<(), Memory>
 }
 
 fn push_ids_fault(line: &mut Vec<u8>, fault: IdsFault) -> Result<(), Memory>
-    ensures { OnOk result (line.new.items ≡ line.old.items ++ (codes "refused specs spec " ++ decimal fault.spec ++ codes " place " ++ decimal fault.place ++ cause_word fault.why ++ codes "\n")) }
+    ensures { OnOk result (line.new.items ≡ line.old.items ++
+        (codes "refused specs spec " ++ decimal fault.spec ++ codes " place " ++ decimal fault.place ++ cause_word fault.why ++ codes "\n")) }
 {
     push_text(line, "refused specs spec ")?;
     push_decimal(line, u64::from(fault.spec))?;
@@ -61,7 +63,8 @@ fn push_ids_fault(line: &mut Vec<u8>, fault: IdsFault) -> Result<(), Memory>
 }
 
 fn push_line_fault(line: &mut Vec<u8>, front: &str, fault: LineFault) -> Result<(), Memory>
-    ensures { OnOk result (line.new.items ≡ line.old.items ++ (front.now ++ decimal fault.line ++ codes " NotBuilt\n")) }
+    ensures { OnOk result (line.new.items ≡ line.old.items ++
+        (front.now ++ decimal fault.line ++ codes " NotBuilt\n")) }
 {
     push_text(line, front)?;
     push_decimal(line, u64::from(fault.line))?;

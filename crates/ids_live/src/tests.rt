@@ -71,105 +71,109 @@ fn words(alloc: Global, given: &[&str]) -> Result<Vec<String>, Memory> {
 
 const REPLAY: [&str; 5] = ["replay", "S", "Q", "M", "T"];
 
+/// A run over specifications, a model of these instance lines, and a script; and how it ends.
+#[derive(Clone, Copy)]
+struct Row {
+    name: &'static str,
+    specs: &'static str,
+    lines: &'static str,
+    script: &'static str,
+    status: u8,
+    text: &'static str,
+    entries: usize,
+}
+
+const NOTHING: &str = "report 0\nspec 1 pass applicable 0 failed 0\nend pass\n";
+
+const FAILED: &str =
+    "report 0\nspec 1 fail applicable 2 failed 2\nfail #10 1\nfail #11 1\nend fail\n";
+
+const ROWS: [Row; 8] = [
+    Row {
+        name: "two_walls_pass",
+        specs: WALLS,
+        lines: TWO_WALLS,
+        script: "sync\n",
+        status: 0,
+        text: PASS,
+        entries: 6,
+    },
+    Row {
+        name: "subclass_is_not_matched",
+        specs: WALLS,
+        lines: STANDARD_CASES,
+        script: "sync",
+        status: 0,
+        text: NOTHING,
+        entries: 2,
+    },
+    Row {
+        name: "groups are asked for",
+        specs: GROUPS,
+        lines: TWO_WALLS,
+        script: "sync",
+        status: 1,
+        text: FAILED,
+        entries: 6,
+    },
+    Row {
+        name: "nothing to audit",
+        specs: GROUPS,
+        lines: "",
+        script: "\u{feff}sync\n",
+        status: 0,
+        text: NOTHING,
+        entries: 2,
+    },
+    Row {
+        name: "a mark is skipped",
+        specs: "\u{feff}{}",
+        lines: "",
+        script: "",
+        status: 2,
+        text: "refused specs spec 0 place 0 NotBuilt\n",
+        entries: 0,
+    },
+    Row {
+        name: "no JSON",
+        specs: "{\"specifications\":[",
+        lines: "!",
+        script: "",
+        status: 2,
+        text: "refused specs spec 0 place 0 Json\n",
+        entries: 0,
+    },
+    Row {
+        name: "an id twice",
+        specs: WALLS,
+        lines: "#10=IFCWALL('a');\n#10=IFCWALL('a');\n",
+        script: "",
+        status: 2,
+        text: "refused model line 9 NotBuilt\n",
+        entries: 0,
+    },
+    Row {
+        name: "two syncs",
+        specs: WALLS,
+        lines: TWO_WALLS,
+        script: "sync\nsync\n",
+        status: 2,
+        text: "refused script line 1 NotBuilt\n",
+        entries: 0,
+    },
+];
+
 #[test]
 fn runs_end_as_told(rt: HostRuntime) -> Result<(), Fail> {
-    let walls = model(rt.alloc(), TWO_WALLS)?;
-    let cases = model(rt.alloc(), STANDARD_CASES)?;
-    let none = model(rt.alloc(), "")?;
-    let twice = model(rt.alloc(), "#10=IFCWALL('a');\n#10=IFCWALL('a');\n")?;
-    let failed = "report 0\nspec 1 fail applicable 2 failed 2\nfail #10 1\nfail #11 1\nend fail\n";
-    let nothing = "report 0\nspec 1 pass applicable 0 failed 0\nend pass\n";
-    let rows = [
-        (
-            "two_walls_pass",
-            WALLS,
-            walls.as_str(),
-            "sync\n",
-            0,
-            PASS,
-            6,
-        ),
-        (
-            "a mark is skipped",
-            "\u{feff}{}",
-            walls.as_str(),
-            "\u{feff}sync",
-            2,
-            "refused specs spec 0 place 0 NotBuilt\n",
-            0,
-        ),
-        (
-            "subclass_is_not_matched",
-            WALLS,
-            cases.as_str(),
-            "sync",
-            0,
-            nothing,
-            2,
-        ),
-        (
-            "groups are asked for",
-            GROUPS,
-            walls.as_str(),
-            "sync",
-            1,
-            failed,
-            6,
-        ),
-        (
-            "nothing to audit",
-            GROUPS,
-            none.as_str(),
-            "\u{feff}sync\n",
-            0,
-            nothing,
-            2,
-        ),
-        (
-            "no JSON",
-            "{\"specifications\":[",
-            "",
-            "",
-            2,
-            "refused specs spec 0 place 0 Json\n",
-            0,
-        ),
-        (
-            "an id twice",
-            WALLS,
-            twice.as_str(),
-            "",
-            2,
-            "refused model line 9 NotBuilt\n",
-            0,
-        ),
-        (
-            "an empty model",
-            WALLS,
-            "",
-            "",
-            2,
-            "refused model line 1 NotBuilt\n",
-            0,
-        ),
-        (
-            "two syncs",
-            WALLS,
-            walls.as_str(),
-            "sync\nsync\n",
-            2,
-            "refused script line 1 NotBuilt\n",
-            0,
-        ),
-    ];
-    for (name, specs, model, script, status, text, entries) in rows {
-        let mut shelf = shelf(rt.alloc(), specs, model, script, ("", &[]))?;
+    for row in ROWS {
+        let model = model(rt.alloc(), row.lines)?;
+        let mut shelf = shelf(rt.alloc(), row.specs, model.as_str(), row.script, ("", &[]))?;
         let mut sink = MemSink::new(rt.alloc(), 200, 7, Numbers::new(rt.alloc()))?;
         let words = words(rt.alloc(), &REPLAY)?;
         let ended = run_serial(rt.alloc(), &words, &mut shelf, &mut sink);
-        assert_eq!(rt; ended.status, status, "{name}");
-        assert_eq!(rt; sink.bytes(), text.as_bytes(), "{name}");
-        assert_eq!(rt; ended.journal.as_slice().len(), entries, "{name}");
+        assert_eq!(rt; ended.status, row.status, "{}", row.name);
+        assert_eq!(rt; sink.bytes(), row.text.as_bytes(), "{}", row.name);
+        assert_eq!(rt; ended.journal.as_slice().len(), row.entries, "{}", row.name);
     }
     Ok(())
 }

@@ -28,14 +28,17 @@ pub fn run_serial<H: Shelf, O: Sink>(
 ) -> Ended
     ensures status { result.status < 7 }
     ensures words { (result.status ≡ 6) ↔ (command_of (map string_bytes words.now) ≡ None) }
-    ensures shelf { IsShelfAfter (H.held shelf.old) (H.held shelf.new) (H.faults shelf.old) (H.faults shelf.new) result }
+    ensures shelf { IsShelfAfter (H.held shelf.old) (H.held shelf.new) (H.faults shelf.old)
+        (H.faults shelf.new) result }
     ensures sink { IsSinkAfter (O.faults out.old) (O.faults out.new) result }
     ensures early { At (3 ∷ 6 ∷ []) result.status (IsUntouched (O.written out.old) (O.written out.new) result) }
     ensures run { IfSome (command_of (map string_bytes words.now)) (λ command.
         (inputs : Inputs) × IsRun (H.held shelf.old) command (O.written out.old) (O.written out.new) result inputs) }
-    ensures complete { IfSome (command_of (map string_bytes words.now)) (λ command. IfSome (inputs_told (H.held shelf.old) command) (λ inputs.
+    ensures complete { IfSome (command_of (map string_bytes words.now)) (λ command. IfSome (inputs_told
+        (H.held shelf.old) command) (λ inputs.
         IsComplete (loaded_of inputs) (Rose (H.faults shelf.old) (H.faults shelf.new)) (Rose (O.faults out.old) (O.faults out.new)) result.status)) }
-    ensures sure { IfSome (command_of (map string_bytes words.now)) (λ command. IfSome (inputs_told (H.held shelf.old) command) (λ inputs.
+    ensures sure { IfSome (command_of (map string_bytes words.now)) (λ command. IfSome (inputs_told
+        (H.held shelf.old) command) (λ inputs.
         IsSure (H.steady shelf.old) (O.sure out.old (length (wanted (loaded_of inputs)))) (H.faults shelf.new ≡ H.faults shelf.old) (O.faults out.new ≡ O.faults out.old) result.status)) }
     ensures lapsed { result.lapsed ≡ 0 }
 {
@@ -46,12 +49,14 @@ pub fn run_serial<H: Shelf, O: Sink>(
 fn run<H: Shelf, O: Sink>(alloc: Global, words: &[String], shelf: &mut H, out: &mut O) -> Ended
     ensures status { result.status < 7 }
     ensures words { (result.status ≡ 6) ↔ (command_of (map string_bytes words.now) ≡ None) }
-    ensures shelf { IsShelfAfter (H.held shelf.old) (H.held shelf.new) (H.faults shelf.old) (H.faults shelf.new) result }
+    ensures shelf { IsShelfAfter (H.held shelf.old) (H.held shelf.new) (H.faults shelf.old)
+        (H.faults shelf.new) result }
     ensures sink { IsSinkAfter (O.faults out.old) (O.faults out.new) result }
     ensures early { At (3 ∷ 6 ∷ []) result.status (IsUntouched (O.written out.old) (O.written out.new) result) }
     ensures run { IfSome (command_of (map string_bytes words.now)) (λ command.
         (inputs : Inputs) × IsRun (H.held shelf.old) command (O.written out.old) (O.written out.new) result inputs) }
-    ensures steady { IfSome (command_of (map string_bytes words.now)) (λ command. At (3 ∷ []) result.status (H.steady shelf.old → inputs_told (H.held shelf.old) command ≡ None)) }
+    ensures steady { IfSome (command_of (map string_bytes words.now)) (λ command. At (3 ∷ []) result.status
+        (H.steady shelf.old → inputs_told (H.held shelf.old) command ≡ None)) }
     ensures sure { IfSome (command_of (map string_bytes words.now)) (λ command. (inputs : Inputs)
         × At (4 ∷ []) result.status (AreHeld (H.held shelf.old) command inputs × (O.sure out.old (length (wanted (loaded_of inputs))) → ⊥))) }
     ensures lapsed { result.lapsed ≡ 0 }

@@ -220,13 +220,13 @@ unfolding instances
 instances_sound most (left rest) before read d le e = absurd cc
 instances_sound most (line first lines) before read d le e =
     elim (chosen (bytes_eq first end_of_section) (Ok (before, lines))
-      (admitted most before (line first lines) (instance_of first) >>= λ x. instances most (before ++ x ∷ []) lines) (Ok read) e) [
+    (admitted most before (line first lines) (instance_of first) >>= λ x. instances most (before ++ x ∷ []) lines) (Ok read) e) [
       | inl h ↦ end_here most before first lines read d le (equal_text first end_of_section h.0) (ok_is (before, lines) read h.1)
       | inr h ↦
-        let k = bound h.1 in
-        let a = admitted_is most before (line first lines) (instance_of first) k.0 k.1 in
-        let b = both (nat_lt (length before) most) (not (stands before k.0.id)) a.1 in
-        one_more most before first lines k.0 read (line_sound first k.0 a.0) (
+          let k = bound h.1 in
+          let a = admitted_is most before (line first lines) (instance_of first) k.0 k.1 in
+          let b = both (nat_lt (length before) most) (not (stands before k.0.id)) a.1 in
+          one_more most before first lines k.0 read (line_sound first k.0 a.0) (
           instances_sound most lines (before ++ k.0 ∷ []) read
           (distinct_more before k.0 d (not_is (stands before k.0.id) b.1))
           (one_longer before k.0 most (below (length before) most b.0)) k.2)
@@ -244,7 +244,7 @@ instances_complete (AreInstanceLines.more first x own found is each) most before
     let room : length before < most = omega (arith, length-append before (x ∷ found), le) in
     rw (other_line first x is, line_complete first x is, is_below (length before) most room, distinct_new before x found d)
     (instances_complete each most (before ++ x ∷ []) rest (subst HasDistinctIds (sym regroup) d) (subst (λ (xs : List Instance). length xs ≤ most) (sym regroup) le)
-      ∙ ap (λ (xs : List Instance). done (xs, rest)) regroup)
+    ∙ ap (λ (xs : List Instance). done (xs, rest)) regroup)
 
 -- ---- the file
 
@@ -263,8 +263,8 @@ unfolding onto
 whole_of most bytes xs body read a s b same =
     let lines : body ≡ onto s.own (onto ends (left [])) = s.text ∙ ap (λ (r : Lines). onto s.own (line end_of_section r)) b in
     let all : cut bytes ≡ onto (header ++ s.own ++ ends) (left []) =
-        a ∙ ap (onto header) (lines ∙ sym (onto_append s.own ends (left []))) ∙ sym (onto_append header (s.own ++ ends) (left []))
-        ∙ ap (λ (ls : List (List ℕ)). onto ls (left [])) (sym (append_assoc header s.own ends)) in
+    a ∙ ap (onto header) (lines ∙ sym (onto_append s.own ends (left []))) ∙ sym (onto_append header (s.own ++ ends) (left []))
+    ∙ ap (λ (ls : List (List ℕ)). onto ls (left [])) (sym (append_assoc header s.own ends)) in
     record {
       lines = s.own;
       text = sym (uncut_cut bytes) ∙ ap uncut all ∙ uncut_onto (header ++ s.own ++ ends);
@@ -293,10 +293,10 @@ unfolding file at_end onto
 file_complete most bytes xs m =
     let plain_body = plain_lines m.each in
     let all_plain : list_all (list_all plain) (header ++ m.lines ++ ends) ≡ true =
-        list_all-append (list_all plain) (header ++ m.lines) ends
-        ∙ together (list_all (list_all plain) (header ++ m.lines)) true (list_all-append (list_all plain) header m.lines ∙ plain_body) refl in
+    list_all-append (list_all plain) (header ++ m.lines) ends
+    ∙ together (list_all (list_all plain) (header ++ m.lines)) true (list_all-append (list_all plain) header m.lines ∙ plain_body) refl in
     let lines : cut bytes ≡ onto header (onto m.lines (onto ends (left []))) =
-        ap cut m.text ∙ cut_ended (header ++ m.lines ++ ends) all_plain ∙ onto_append (header ++ m.lines) ends (left []) ∙ onto_append header m.lines (onto ends (left [])) in
+    ap cut m.text ∙ cut_ended (header ++ m.lines ++ ends) all_plain ∙ onto_append (header ++ m.lines) ends (left []) ∙ onto_append header m.lines (onto ends (left [])) in
     rw (lines, after_complete header (onto m.lines (onto ends (left []))), instances_complete m.each most [] (line last_line (left [])) m.distinct m.few, after_complete (last_line ∷ []) (left [])) refl
 
 read_is : {A : Type 0} (bytes : List ℕ) (read : Read A) (x : A) → with_line bytes read ≡ Ok x → read ≡ Ok x

@@ -48,8 +48,8 @@ run_sound p s (b ∷ t) =
     elim (false_or_true (p b)) [
       | inl h ↦ rw h (record { xs = []; text = refl; value = sym (append-nil s); each = refl })
       | inr h ↦
-        let r = run_sound p (s ++ b ∷ []) t in
-        rw h (record { xs = b ∷ r.xs; text = ap (λ (w : Text). b ∷ w) r.text; value = r.value ∙ append_assoc s (b ∷ []) r.xs; each = rw h r.each })
+          let r = run_sound p (s ++ b ∷ []) t in
+          rw h (record { xs = b ∷ r.xs; text = ap (λ (w : Text). b ∷ w) r.text; value = r.value ∙ append_assoc s (b ∷ []) r.xs; each = rw h r.each })
     ]
 
 run_complete : (p : ℕ → Bool) (s xs u : Text) → list_all p xs ≡ true → begins p u ≡ false → run p s (xs ++ u) ≡ (s ++ xs, u)
@@ -81,11 +81,11 @@ digits_sound n (b ∷ t) m u e =
     let next : ℕ = 10 * n + (b - 48) in
     elim (chosen (is_ascii_digit b) (cond (nat_lt next (2 ^ 31)) (digits next t) None) (Some (n, b ∷ t)) (Some (m, u)) e) [
       | inl h ↦
-        let k = kept (nat_lt next (2 ^ 31)) (digits next t) (m, u) h.1 in
-        let r = digits_sound next t m u k.1 in
-        record { ds = b ∷ r.ds; text = ap (λ (w : Text). b ∷ w) r.text; value = r.value; each = rw h.0 r.each; high = λ lt. r.high (below next (2 ^ 31) k.0) }
+          let k = kept (nat_lt next (2 ^ 31)) (digits next t) (m, u) h.1 in
+          let r = digits_sound next t m u k.1 in
+          record { ds = b ∷ r.ds; text = ap (λ (w : Text). b ∷ w) r.text; value = r.value; each = rw h.0 r.each; high = λ lt. r.high (below next (2 ^ 31) k.0) }
       | inr h ↦
-        subst (λ (r : ℕ × Text). AreDigits n (b ∷ t) r) (some_is (n, b ∷ t) (m, u) h.1) (record { ds = []; text = refl; value = refl; each = refl; high = λ lt. lt })
+          subst (λ (r : ℕ × Text). AreDigits n (b ∷ t) r) (some_is (n, b ∷ t) (m, u) h.1) (record { ds = []; text = refl; value = refl; each = refl; high = λ lt. lt })
     ]
 
 grows : (n : ℕ) (ds : List ℕ) → n ≤ from n ds
@@ -192,7 +192,7 @@ text_of t ran read r e =
     let k = bound e in
     let quote : ran.1 ≡ 39 ∷ k.0 = behind_sound 39 ran.1 k.0 k.1 in
     let whole : 39 ∷ t ≡ (39 ∷ (r.xs ++ 39 ∷ [])) ++ k.0 =
-        ap (λ (w : Text). 39 ∷ w) (r.text ∙ ap (λ (w : Text). r.xs ++ w) quote ∙ sym (append_assoc r.xs (39 ∷ []) k.0)) in
+    ap (λ (w : Text). 39 ∷ w) (r.text ∙ ap (λ (w : Text). r.xs ++ w) quote ∙ sym (append_assoc r.xs (39 ∷ []) k.0)) in
     let value : made.text r.xs ≡ made.text ran.0 = ap (λ (s : List ℕ). made.text s) (sym r.value) in
     subst (λ (x : Value × Text). HasParameter (39 ∷ t) x) (some_is (made.text ran.0, k.0) read k.2)
     (record { p = 39 ∷ (r.xs ++ 39 ∷ []); text = whole; is = subst (λ (v : Value). IsParameter (39 ∷ (r.xs ++ 39 ∷ [])) v) value (IsParameter.text r.xs r.each) })
@@ -205,9 +205,9 @@ parameter_sound (b ∷ t) read e =
     elim (chosen (b == 36) (Some (made.absent, t)) (cond (b == 39) (quoted ran) None) (Some read) e) [
       | inl h ↦ absent_of b t read h.0 h.1
       | inr h ↦
-        let k = kept (b == 39) (quoted ran) read h.1 in
-        let same : 39 ≡ b = sym (equal_number b 39 k.0) in
-        subst (λ (c : ℕ). HasParameter (c ∷ t) read) same (text_of t ran read (run_sound is_ascii_alphanumeric [] t) k.1)
+          let k = kept (b == 39) (quoted ran) read h.1 in
+          let same : 39 ≡ b = sym (equal_number b 39 k.0) in
+          subst (λ (c : ℕ). HasParameter (c ∷ t) read) same (text_of t ran read (run_sound is_ascii_alphanumeric [] t) k.1)
     ]
 
 parameter_complete : {p : List ℕ} {value : Value} → IsParameter p value → (u : Text) → parameter (p ++ u) ≡ Some (value, u)
@@ -231,26 +231,26 @@ behind_sound_at before value t p [] read text is inner e = absurd cc
 behind_sound_at before value t p (b ∷ w) read text is inner e =
     elim (chosen (b == 44) (parameters (before ++ value ∷ []) w) (cond (b == 41) (Some (before ++ value ∷ [], w)) None) (Some read) e) [
       | inl h ↦
-        let r = inner w (omega arith) h.1 in
-        let comma : b ≡ 44 = equal_number b 44 h.0 in
-        record {
-          values = value ∷ r.values;
-          p = p ++ 44 ∷ [] ++ r.p;
-          text = text ∙ ap (λ (c : ℕ). p ++ c ∷ w) comma ∙ ap (λ (v : Text). p ++ 44 ∷ v) r.text ∙ sym (append_assoc p (44 ∷ []) (r.p ++ 41 ∷ read.1)) ∙ sym (append_assoc (p ++ 44 ∷ []) r.p (41 ∷ read.1));
-          value = r.value ∙ append_assoc before (value ∷ []) r.values;
-          are = AreParameters.more p r.p value r.values is r.are;
-        }
+          let r = inner w (omega arith) h.1 in
+          let comma : b ≡ 44 = equal_number b 44 h.0 in
+          record {
+            values = value ∷ r.values;
+            p = p ++ 44 ∷ [] ++ r.p;
+            text = text ∙ ap (λ (c : ℕ). p ++ c ∷ w) comma ∙ ap (λ (v : Text). p ++ 44 ∷ v) r.text ∙ sym (append_assoc p (44 ∷ []) (r.p ++ 41 ∷ read.1)) ∙ sym (append_assoc (p ++ 44 ∷ []) r.p (41 ∷ read.1));
+            value = r.value ∙ append_assoc before (value ∷ []) r.values;
+            are = AreParameters.more p r.p value r.values is r.are;
+          }
       | inr h ↦
-        let k = kept (b == 41) (Some (before ++ value ∷ [], w)) read h.1 in
-        let end : b ≡ 41 = equal_number b 41 k.0 in
-        let same : (before ++ value ∷ [], w) ≡ read = some_is (before ++ value ∷ [], w) read k.1 in
-        subst (λ (x : List Value × Text). HasParameters before t x) same (record {
-          values = value ∷ [];
-          p = p;
-          text = text ∙ ap (λ (c : ℕ). p ++ c ∷ w) end;
-          value = refl;
-          are = AreParameters.one p value is;
-        })
+          let k = kept (b == 41) (Some (before ++ value ∷ [], w)) read h.1 in
+          let end : b ≡ 41 = equal_number b 41 k.0 in
+          let same : (before ++ value ∷ [], w) ≡ read = some_is (before ++ value ∷ [], w) read k.1 in
+          subst (λ (x : List Value × Text). HasParameters before t x) same (record {
+            values = value ∷ [];
+            p = p;
+            text = text ∙ ap (λ (c : ℕ). p ++ c ∷ w) end;
+            value = refl;
+            are = AreParameters.one p value is;
+          })
     ]
 
 shorter : (t p r : Text) → t ≡ p ++ r → length r ≤ length t
@@ -314,19 +314,27 @@ line_sound line x e =
     let end = bound params.2 in
     let whole = alone_is (record { id = id.0.0; entity = entity.0.0; params = params.0.0 }) x end.0 end.2 in
     subst (λ (y : Instance). IsInstanceLine line y) whole.0 (
-      line_of line start.0 id.0.1 equals.0 entity.0.1 open'.0 params.0.1 end.0 id.0.0 entity.0.0 params.0.0
-      (behind_sound 35 line start.0 start.1)
-      (number_sound start.0 id.0.0 id.0.1 id.1)
-      (behind_sound 61 id.0.1 equals.0 equals.1)
-      (keyword_sound equals.0 entity.0.0 entity.0.1 entity.1)
-      (behind_sound 40 entity.0.1 open'.0 open'.1)
-      (params_sound (length open'.0 + 1) [] open'.0 params.0 (one_longer open'.0) params.1)
-      (behind_sound 59 params.0.1 end.0 end.1)
-      whole.1)
+    line_of line start.0 id.0.1 equals.0 entity.0.1 open'.0 params.0.1 end.0 id.0.0 entity.0.0 params.0.0
+    (behind_sound 35 line start.0 start.1)
+    (number_sound start.0 id.0.0 id.0.1 id.1)
+    (behind_sound 61 id.0.1 equals.0 equals.1)
+    (keyword_sound equals.0 entity.0.0 entity.0.1 entity.1)
+    (behind_sound 40 entity.0.1 open'.0 open'.1)
+    (params_sound (length open'.0 + 1) [] open'.0 params.0 (one_longer open'.0) params.1)
+    (behind_sound 59 params.0.1 end.0 end.1)
+    whole.1)
 
 pub line_complete : (line : List ℕ) (x : Instance) → IsInstanceLine line x → instance_of line ≡ Some x
 unfolding instance_of
 line_complete line x is =
     let inner : Text = is.params ++ 41 ∷ 59 ∷ [] in
-    rw (is.text ∙ line_text is.digits x.entity is.params, behind_complete, number_complete is.digits x.id (61 ∷ (x.entity ++ 40 ∷ inner)) is.id refl, behind_complete,
-      keyword_complete x.entity (40 ∷ inner) is.entity refl, behind_complete, params_complete is.values [] (59 ∷ []), behind_complete) refl
+    rw (
+      is.text ∙ line_text is.digits x.entity is.params,
+      behind_complete,
+      number_complete is.digits x.id (61 ∷ (x.entity ++ 40 ∷ inner)) is.id refl,
+      behind_complete,
+      keyword_complete x.entity (40 ∷ inner) is.entity refl,
+      behind_complete,
+      params_complete is.values [] (59 ∷ []),
+      behind_complete,
+    ) refl

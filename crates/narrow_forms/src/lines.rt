@@ -39,7 +39,8 @@ impl<'a> LineReader<'a> {
 
     /// Takes the next line, without its line feed. Where no line feed comes any more, nothing is taken. `O(length of the line)`.
     pub(crate) fn next_line(&mut self) -> Option<&'a [u8]>
-        ensures taken { MatchOption result ((cut self.old ≡ Lines.left self.old) × (self.new ≡ self.old)) (λ line. cut self.old ≡ Lines.line line.now (cut self.new)) }
+        ensures taken { MatchOption result ((cut self.old ≡ Lines.left self.old)
+            × (self.new ≡ self.old)) (λ line. cut self.old ≡ Lines.line line.now (cut self.new)) }
         ensures shorter { OnSome result (length self.new < length self.old) }
     {
         let Some(end) = first_feed(self.rest) else {

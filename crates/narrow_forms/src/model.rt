@@ -16,7 +16,8 @@ use ifc_base::{Instance, Instances, Refusal};
 use std::alloc::Global;
 use std::collections::BTreeSet;
 
-const HEADER: &[u8] = b"ISO-10303-21;\nHEADER;\nFILE_DESCRIPTION((''),'2;1');\nFILE_NAME('','',(''),(''),'','','');\nFILE_SCHEMA(('IFC4'));\nENDSEC;\nDATA;\n";
+const HEADER: &[u8] =
+    b"ISO-10303-21;\nHEADER;\nFILE_DESCRIPTION((''),'2;1');\nFILE_NAME('','',(''),(''),'','','');\nFILE_SCHEMA(('IFC4'));\nENDSEC;\nDATA;\n";
 
 const LAST_LINE: &[u8] = b"END-ISO-10303-21;\n";
 
@@ -123,6 +124,6 @@ fn read(alloc: Global, bytes: &[u8], most: u32) -> Result<Instances, Refusal<Lin
 
 /// A file has the instances of one list at most.
 pub fn one_model()
-    ensures { (most : ℕ) (bytes : List ℕ) (x y : List Instance) → ModelFile most bytes x → ModelFile most bytes y → x ≡ y }
-{
-}
+    ensures { (most : ℕ) (bytes : List ℕ) (x y : List Instance) → ModelFile most bytes x → ModelFile most bytes y
+        → x ≡ y }
+{}

@@ -1,4 +1,4 @@
-ghost use Rattle.std.specs.Prelude.{◌≤◌, None, length, IfOk};
+ghost use Rattle.std.specs.Prelude.{◌≡◌, ◌≤◌, None, length, IfOk};
 
 use crate::traits::{Failed, Shelf, Sink};
 use ifc_base::Name;
@@ -25,8 +25,12 @@ struct OpenFile {
 }
 
 impl FileShelf {
+    ghost use Rattle.shelf_io.specs.Real.{file_faults};
+
     /// The shelf over this runtime, with no fault so far. It takes no memory. `O(1)`.
-    pub fn new(rt: HostRuntime) -> FileShelf {
+    pub fn new(rt: HostRuntime) -> FileShelf
+        ensures { file_faults result ≡ 0 }
+    {
         FileShelf {
             rt,
             last: None,
@@ -62,9 +66,11 @@ fn read_open(
 
 /// A read asks the system once, and opens the file first where it isn't the one that was read last.
 impl Shelf for FileShelf {
+    ghost use Rattle.shelf_io.specs.Real.{file_faults};
+
     ghost held = { λ _. None };
 
-    ghost faults = { λ s. s.faults };
+    ghost faults = { file_faults };
 
     fn read_at(&mut self, name: &str, from: u64, into: &mut [u8]) -> Result<usize, Failed> {
         match read_open(&self.rt, &mut self.last, name, from, into) {
@@ -86,17 +92,23 @@ pub struct OutSink {
 }
 
 impl OutSink {
+    ghost use Rattle.shelf_io.specs.Real.{out_faults};
+
     /// The sink over this runtime, with no fault so far. It takes no memory. `O(1)`.
-    pub fn new(rt: HostRuntime) -> OutSink {
+    pub fn new(rt: HostRuntime) -> OutSink
+        ensures { out_faults result ≡ 0 }
+    {
         OutSink { rt, faults: 0 }
     }
 }
 
 /// A write asks the system once, without a buffer of its own.
 impl Sink for OutSink {
+    ghost use Rattle.shelf_io.specs.Real.{out_faults};
+
     ghost written = { λ _. None };
 
-    ghost faults = { λ s. s.faults };
+    ghost faults = { out_faults };
 
     fn write(&mut self, bytes: &[u8]) -> Result<usize, Failed> {
         if bytes.is_empty() {

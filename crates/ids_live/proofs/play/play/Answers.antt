@@ -4,7 +4,7 @@ use Rattle.audit_model.specs.Scratch.{scratch}
 use Rattle.ids_live.specs.Complete.{wanted}
 use Rattle.ids_live.specs.Drain.{drain}
 use Rattle.ids_live.specs.Steps.{ends_pass}
-use Rattle.ids_live.proofs.Ends.{done_end, cut_end, audit_passes, wanted_text}
+use Rattle.ids_live.proofs.Ends.{done_end, cut_end, audit_passes, wanted_text, serial_legal}
 use Rattle.ids_live.proofs.play.play.Goals as goal
 
 pub returns-in-Ok-write_all-clause-ends : goal.returns-in-Ok-write_all-clause-ends
@@ -15,7 +15,7 @@ returns-in-Ok-write_all-clause-ends g c =
     let text : c.in-Ok-render_report.text ≡ audit_text l.specs l.model 0 = c.in-Ok-render_report.ensures ∙ ap (report_text 0) (c.deref.ensures.value ∙ counted) in
     let passed : c.passes.result ≡ ends_pass c.in-Ok-render_report.text =
     c.passes.ensures ∙ ap all_pass (c.deref-in-Ok-write_all.ensures.value ∙ counted) ∙ sym (audit_passes l 0) ∙ ap ends_pass (sym text) in
-    done_end l _ _ _ c.in-Ok-render_report.text steps text (rw c.as_slice-3.ensures at c.in-Ok-write_all.ensures.ok) c.passes.result passed c.status_of.ensures
+    done_end l _ _ _ c.in-Ok-render_report.text (serial_legal l c.requires c.drain_of_file.ensures) steps text (rw c.as_slice-3.ensures at c.in-Ok-write_all.ensures.ok) c.passes.result passed c.status_of.ensures
 
 pub returns-clause-ends : goal.returns-clause-ends
 returns-clause-ends g c =

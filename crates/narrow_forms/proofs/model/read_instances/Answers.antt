@@ -21,11 +21,12 @@ returns-then-not-branch c =
 pub loop-line-preserved : goal.loop-line-preserved
 loop-line-preserved c =
     let l = c.loop-line in
-    let x = c.in-Ok.instance in
-    (l.invariant.0
-      ∙ ap (instances c.args.most l.found.items) c.in-Some.ensures.taken
-      ∙ one_more c.args.most l.found.items c.in-Some.line.now (cut c.next_line.new.self) x (c.if-eq.ensures ∙ ap (bytes_eq c.in-Some.line.now) c.as_slice.ensures) c.in-Ok.ensures c.get.result (contains nat_cmp l.ids c.get.result) c.in_ok-insert.field-0
-      c.get.ensures.value (l.invariant.1 c.get.result) c.in_ok-insert.ensures.added c.if-not-branch.false (omega arith)
-      ∙ ap (λ xs. instances c.args.most xs (cut c.next_line.new.self)) (sym c.in_ok-push.ensures.items),
-     λ id. now_stands l.found.items c.push.new.self.items x c.get.result id (contains nat_cmp l.ids id) (contains nat_cmp c.insert.new.self id)
-     (c.in_ok-insert.ensures.updates.0 id) (l.invariant.1 id) c.get.ensures.value c.in_ok-push.ensures.items)
+    let x = c.in-Ok.instance in (
+      l.invariant.0
+          ∙ ap (instances c.args.most l.found.items) c.in-Some.ensures.taken
+          ∙ one_more c.args.most l.found.items c.in-Some.line.now (cut c.next_line.new.self) x (c.if-eq.ensures ∙ ap (bytes_eq c.in-Some.line.now) c.as_slice.ensures) c.in-Ok.ensures c.get.result (contains nat_cmp l.ids c.get.result) c.in_ok-insert.field-0
+          c.get.ensures.value (l.invariant.1 c.get.result) c.in_ok-insert.ensures.added c.if-not-branch.false (omega arith)
+          ∙ ap (λ xs. instances c.args.most xs (cut c.next_line.new.self)) (sym c.in_ok-push.ensures.items),
+      λ id. now_stands l.found.items c.push.new.self.items x c.get.result id (contains nat_cmp l.ids id) (contains nat_cmp c.insert.new.self id)
+          (c.in_ok-insert.ensures.updates.0 id) (l.invariant.1 id) c.get.ensures.value c.in_ok-push.ensures.items,
+    )

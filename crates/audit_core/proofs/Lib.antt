@@ -1,0 +1,15 @@
+pub mod Lists
+pub mod Order
+pub mod First
+pub mod Logs
+pub mod TallyLemmas
+pub mod Ends
+pub mod Boards
+pub mod PairOrder
+pub mod Uses
+pub mod Entries
+pub mod CommitLaws
+pub mod JudgeLaws
+pub mod BoardTallies
+pub mod Passing
+pub mod Least

@@ -1,0 +1,601 @@
+ghost use Rattle.std.specs.Prelude.{◌≡◌, ◌≤◌, ◌<◌, ◌^◌, true, false, None, Some, [], length, reverse, find, IfOk, IfErr, OnOk};
+ghost use Rattle.std.specs.List.{list_all};
+ghost use Rattle.audit_model.specs.Models.{HasDistinctIds, IsModel, model_of_file};
+ghost use Rattle.audit_model.specs.Pairs.{NumberedFrom};
+ghost use Rattle.audit_model.specs.Judging.{judge};
+ghost use Rattle.audit_model.specs.Scratch.{scratch};
+ghost use Rattle.audit_model.specs.History.{changed_since, current, last_change, revision};
+ghost use Rattle.audit_model.specs.Machine.{is_full, least_claimable, least_unsettled, Legal, MayFollow};
+ghost use Rattle.audit_core.specs.Changes.{has_place};
+ghost use Rattle.audit_core.specs.Cores.{now_of};
+ghost use Rattle.audit_core.specs.Commits.{IsNotPrepared, IsPlan, IsPlanned, IsPreparedFor};
+ghost use Rattle.audit_core.specs.Steps.{claim_told, delivery_told, publish_told, Adds, IfGiven, IsAudit, IsClaimOf, IsHalted, IsOut, IsTrueFinding, IsUse, Unchanged};
+
+use crate::board::{
+    Kept, Row, back_to, empty_rows, first_unsettled, next_claimable, pair_at, place_of, settle,
+};
+use crate::carry::{carry, first_changed};
+use crate::changes::ChangeLog;
+use crate::claims::take_back;
+use crate::journal::CoreJournal;
+use crate::plan::{Planned, plan_commit};
+use crate::tallies::tally_all;
+use audit_model::{
+    Call, CommitRefusal, Edits, Given, Limits, Pair, Reply, Specification, StepRec, Tally,
+};
+use ifc_base::{Instances, Key, Keys, Memory, TryCopy};
+use model_view::{
+    Claim, Claimed, Delivered, Draft, Finding, Halt, NotPrepared, Published, Snapshot,
+};
+use report_text::render_report;
+use std::alloc::Global;
+use std::marker::Model;
+
+/// A commit that is accepted and not made yet. It may be dropped, which leaves the core as it is.
+#[derive(Drop)]
+pub struct Prepared {
+    actor: u32,
+    base: u32,
+    edits: Edits,
+    next: Snapshot,
+    keys: Keys,
+    rows: Vec<Row>,
+}
+
+impl Model for Prepared {
+    ghost use Rattle.std.specs.Coded.{codes};
+    ghost use Rattle.ifc_base.specs.contracts.value.Value as value;
+    ghost use Rattle.audit_core.specs.Commits.{PreparedView};
+
+    ghost Value = { PreparedView };
+
+    ghost coded = { Prim.hlevel (codes, value.the_row.coded) };
+
+    ghost view = { λ prepared. record { actor = prepared.actor; base = prepared.base; edits = prepared.edits; next = prepared.next; keys = prepared.keys; rows = prepared.rows.items } };
+}
+
+/// One model in numbered revisions, with the journal of all that was asked of it. Contracts see what
+/// stays the same - the specifications, the model of the file, the limits - and the history, the newest
+/// entry first. A core isn't dropped: it ends by `into_journal`.
+pub struct Core<'a> {
+    specs: &'a [Specification],
+    limits: Limits,
+    first: Snapshot,
+    current: Snapshot,
+    board: Vec<Row>,
+    passed: usize,
+    claims: Vec<Given>,
+    log: ChangeLog,
+    number: u64,
+    journal: Vec<StepRec>,
+}
+
+impl<'a> Model for Core<'a> {
+    ghost use Rattle.std.specs.Prelude.{◌+◌, ◌-◌, reverse, length, vec_capacity};
+    ghost use Rattle.std.specs.Coded.{codes};
+    ghost use Rattle.ifc_base.specs.contracts.value.Value as value;
+    ghost use Rattle.audit_core.specs.Cores.{CoreView};
+    ghost use Rattle.audit_core.specs.Kept.{IsKept};
+
+    ghost Value = { CoreView };
+
+    ghost coded = { Prim.hlevel (codes, value.the_row.coded) };
+
+    ghost view = { λ core. record {
+      ground = record { specs = core.specs.now; first = core.first.model; limits = core.limits };
+      history = reverse core.journal.items;
+      spare = vec_capacity core.journal - (length core.journal.items + length core.claims.items);
+      shelf = core.log;
+    } };
+
+    ghost invariant = { λ core. IsKept (record { specs = core.specs.now; first = core.first.model; limits = core.limits })
+        (reverse core.journal.items) core.current core.board.items core.passed core.claims.items core.log core.number (vec_capacity core.journal) };
+}
+
+impl<'a> Core<'a> {
+    /// A core over the model of a file with these instances, without entries. The ids of the instances
+    /// have to be distinct, there may be at most `limits.instances` of them, and the specifications have
+    /// to be numbered by their places from 1. `O(n log n + s * n)` for `n` instances and `s`
+    /// specifications.
+    pub fn new(
+        alloc: Global,
+        specs: &'a [Specification],
+        instances: Instances,
+        limits: Limits,
+    ) -> Result<Core<'a>, Memory>
+        requires distinct { HasDistinctIds instances }
+        requires few { length instances ≤ limits.instances }
+        requires numbered { NumberedFrom 1 specs.now }
+        ensures ground { IfOk result
+            (λ core. core.ground ≡ record { specs = specs.now; first = model_of_file instances; limits = limits }) }
+        ensures history { IfOk result (λ core. core.history ≡ []) }
+    {
+        let first = Snapshot::first(alloc, instances)?;
+        let current = first.share()?;
+        let board = empty_rows(alloc, specs, current.instances())?;
+        Ok(Core {
+            specs,
+            limits,
+            first,
+            current,
+            board,
+            passed: 0,
+            claims: Vec::new(alloc),
+            log: ChangeLog::new(alloc),
+            number: 0,
+            journal: Vec::new(alloc),
+        })
+    }
+
+    /// The journal, the oldest entry first. It is legal.
+    pub fn journal(&self) -> &[StepRec]
+        ensures entries { result.now ≡ reverse self.now.history }
+        ensures legal { Legal self.now.ground self.now.history }
+    {
+        self.journal.as_slice()
+    }
+
+    /// The journal of the whole run, which is legal. It takes no memory.
+    pub fn into_journal(self) -> CoreJournal
+        ensures entries { result ≡ reverse self.entry.history }
+        ensures legal { Legal self.entry.ground self.entry.history }
+    {
+        let Core {
+            specs: _,
+            limits: _,
+            first: _first,
+            current: _current,
+            board: _board,
+            passed: _,
+            claims: _claims,
+            log: _log,
+            number: _,
+            journal,
+        } = self;
+        CoreJournal::from_entries(journal)
+    }
+
+    /// Makes room for n more entries, beside one for the end of each claim that is out.
+    fn make_room(&mut self, n: u64) -> Result<(), Halt>
+        requires { n < 2 ^ 32 }
+        ensures same { Unchanged self.old self.new }
+        ensures ok { OnOk result (n ≤ self.new.spare) }
+        ensures not_full { OnOk result (is_full self.old.ground self.old.history n ≡ false) }
+        ensures halted { IfErr result (λ why. IsHalted self.old self.new n why) }
+    {
+        let used = self.journal.len() as u64 + self.claims.len() as u64;
+        if self.limits.steps - used < n {
+            return Err(Halt::Full);
+        }
+        match self.journal.reserve(self.claims.len() + n as usize) {
+            Ok(()) => Ok(()),
+            Err(_) => Err(Halt::Memory),
+        }
+    }
+
+    /// Begins a draft: the snapshot of the current revision. `O(1)`, amortized.
+    pub fn begin(&mut self, actor: u32) -> Result<Snapshot, Halt>
+        ensures ok { IfOk result (λ base. Adds self.old self.new
+            (record { actor = actor; call = Call.Begin; reply = Reply.Began base.revision })) }
+        ensures snapshot { IfOk result (λ base. base ≡ now_of self.old) }
+        ensures not_full { OnOk result (is_full self.old.ground self.old.history 1 ≡ false) }
+        ensures halted { IfErr result (λ why. IsHalted self.old self.new 1 why) }
+    {
+        self.make_room(1)?;
+        let Ok(base) = self.current.share() else {
+            return Err(Halt::Memory);
+        };
+        let revision = self.current.revision();
+        self.journal.push_reserved(StepRec {
+            actor,
+            call: Call::Begin,
+            reply: Reply::Began { revision },
+        });
+        Ok(base)
+    }
+
+    /// The least unsettled pair that isn't out. It notes the rows that it has passed.
+    fn next_pair(&mut self) -> Option<Pair>
+        ensures pair { result ≡ least_claimable self.old.ground self.old.history }
+        ensures same { self.new ≡ self.old }
+    {
+        let at = next_claimable(&self.board, &self.claims, self.passed);
+        self.passed = at;
+        pair_at(&self.board, at)
+    }
+
+    /// Gives the claim of the least unsettled pair that isn't out, at the current revision; or `Idle`
+    /// where there is no such pair. `O(c)` for `c` claims that are out, amortized over the rows.
+    pub fn claim(&mut self, actor: u32) -> Result<Claimed, Halt>
+        ensures ok { IfOk result (λ told. Adds self.old self.new
+            (record { actor = actor; call = Call.Claim; reply = claim_told told })) }
+        ensures given { IfOk result (λ told. IfGiven self.old self.new actor told) }
+        ensures not_full { OnOk result (is_full self.old.ground self.old.history 2 ≡ false) }
+        ensures halted { IfErr result (λ why. IsHalted self.old self.new 2 why) }
+    {
+        self.make_room(2)?;
+        match self.next_pair() {
+            Some(pair) => self.give(actor, &pair),
+            None => {
+                self.idle(actor);
+                Ok(Claimed::Idle)
+            }
+        }
+    }
+
+    /// Adds the entry of a claim where every unsettled pair is out.
+    fn idle(&mut self, actor: u32)
+        requires room { 2 ≤ self.old.spare }
+        requires not_full { is_full self.old.ground self.old.history 2 ≡ false }
+        requires none { least_claimable self.old.ground self.old.history ≡ None }
+        ensures { Adds self.old self.new (record { actor = actor; call = Call.Claim; reply = Reply.Idle }) }
+    {
+        self.journal.push_reserved(StepRec {
+            actor,
+            call: Call::Claim,
+            reply: Reply::Idle,
+        });
+    }
+
+    /// Gives the claim of this pair, the least unsettled one that isn't out.
+    fn give(&mut self, actor: u32, pair: &Pair) -> Result<Claimed, Halt>
+        requires room { 2 ≤ self.old.spare }
+        requires not_full { is_full self.old.ground self.old.history 2 ≡ false }
+        requires least { least_claimable self.old.ground self.old.history ≡ Some pair.now }
+        ensures ok { IfOk result (λ told. Adds self.old self.new
+            (record { actor = actor; call = Call.Claim; reply = claim_told told })) }
+        ensures given { IfOk result (λ told. IfGiven self.old self.new actor told) }
+        ensures halted { IfErr result (λ why. IsHalted self.old self.new 2 why) }
+    {
+        if self.claims.reserve(1).is_err() {
+            return Err(Halt::Memory);
+        }
+        let Ok(snapshot) = self.current.share() else {
+            return Err(Halt::Memory);
+        };
+        let revision = self.current.revision();
+        let number = self.number + 1;
+        self.claims.push_reserved(Given {
+            number,
+            actor,
+            pair: *pair,
+            revision,
+        });
+        self.number = number;
+        self.journal.push_reserved(StepRec {
+            actor,
+            call: Call::Claim,
+            reply: Reply::Claimed {
+                number,
+                pair: *pair,
+                revision,
+            },
+        });
+        Ok(Claimed::Pair(Claim::new(number, *pair, snapshot)))
+    }
+
+    /// The first of these keys that a commit after this revision changed.
+    fn changed(&self, needs: &[Key], since: u32) -> Option<Key>
+        ensures { result ≡ find (changed_since self.now.ground self.now.history since) needs.now }
+    {
+        first_changed(&self.log, needs, since)
+    }
+
+    /// The last revision that changed the key, or 0.
+    fn last_change(&self, key: Key) -> u32
+        ensures { result ≡ last_change self.now.ground self.now.history key }
+    {
+        self.log.last(key)
+    }
+
+    /// Takes a claim back, whose pair is then unsettled as before. It has to be out, and this actor's.
+    /// It takes no memory and is never full. `O(c + log n)` for `c` claims that are out and `n` pairs.
+    pub fn give_back(&mut self, actor: u32, claim: Claim)
+        requires { IsOut self.old actor claim }
+        ensures { Adds self.old self.new
+            (record { actor = actor; call = Call.GiveBack claim.number; reply = Reply.Back }) }
+    {
+        let number = claim.number();
+        let place = place_of(&self.board, claim.pair());
+        claim.end();
+        take_back(&mut self.claims, number);
+        self.passed = back_to(self.passed, place);
+        self.journal.push_reserved(StepRec {
+            actor,
+            call: Call::GiveBack { number },
+            reply: Reply::Back,
+        });
+    }
+
+    /// Takes what an evaluation found of a claim, which then ends. It is used where nothing that it
+    /// needs was changed since the claim's revision; its pair is then settled. Else it is stale. The
+    /// claim has to be out, and this actor's; its snapshot the model of its revision; and verdict and
+    /// needs those of the definitions there. It is never full. At `Err` the finding comes back and the
+    /// core is as before. `O(c + k log n)` for `c` claims that are out and `k` needed keys.
+    pub fn deliver(&mut self, actor: u32, finding: Finding) -> Result<Delivered, (Memory, Finding)>
+        requires { IsTrueFinding self.old actor finding }
+        ensures ok { IfOk result (λ told. Adds self.old self.new
+            (record { actor = actor; call = Call.Deliver finding.claim.number; reply = delivery_told told })) }
+        ensures back { IfErr result (λ back. Unchanged self.old self.new × (back.1 ≡ finding)) }
+    {
+        let _ = &self.journal;
+        let number = finding.claim().number();
+        let pair = finding.claim().pair();
+        let since = finding.claim().revision();
+        let changed = self.changed(finding.needs().as_slice(), since);
+        let (claim, verdict, needs) = finding.into_parts();
+        claim.end();
+        match changed {
+            None => {
+                self.keep(actor, number, pair, Kept { verdict, needs });
+                Ok(Delivered::Used)
+            }
+            Some(key) => {
+                let revision = self.last_change(key);
+                self.pass_over(actor, number, pair, &key, revision);
+                Ok(Delivered::Stale { key, revision })
+            }
+        }
+    }
+
+    /// Ends a claim and keeps what was found.
+    fn keep(&mut self, actor: u32, number: u64, pair: Pair, kept: Kept)
+        requires { IsUse self.old actor number pair kept }
+        ensures { Adds self.old self.new (record { actor = actor; call = Call.Deliver number; reply = Reply.Used }) }
+    {
+        let place = settle(&mut self.board, pair, kept);
+        take_back(&mut self.claims, number);
+        self.passed = back_to(self.passed, place);
+        self.journal.push_reserved(StepRec {
+            actor,
+            call: Call::Deliver { number },
+            reply: Reply::Used,
+        });
+    }
+
+    /// Ends a claim of this pair, whose finding is stale.
+    fn pass_over(&mut self, actor: u32, number: u64, pair: Pair, key: &Key, revision: u32)
+        requires claim { IsClaimOf self.old number pair }
+        requires lawful { MayFollow self.old.ground self.old.history
+            (record { actor = actor; call = Call.Deliver number; reply = Reply.Stale key.now revision }) }
+        ensures { Adds self.old self.new
+            (record { actor = actor; call = Call.Deliver number; reply = Reply.Stale key.now revision }) }
+    {
+        let place = place_of(&self.board, pair);
+        take_back(&mut self.claims, number);
+        self.passed = back_to(self.passed, place);
+        self.journal.push_reserved(StepRec {
+            actor,
+            call: Call::Deliver { number },
+            reply: Reply::Stale {
+                key: *key,
+                revision,
+            },
+        });
+    }
+
+    /// The least unsettled pair.
+    #[tactic(auto, using(crate::proofs::Boards::unsettled_on_board))]
+    fn pending_pair(&self) -> Option<Pair>
+        ensures { result ≡ least_unsettled self.now.ground self.now.history }
+    {
+        first_unsettled(&self.board)
+    }
+
+    /// The tallies, where every pair is settled.
+    fn tallies(&self, alloc: Global) -> Result<Vec<Tally>, Memory>
+        requires { least_unsettled self.now.ground self.now.history ≡ None }
+        ensures { IfOk result (λ tallies. tallies.items ≡ scratch self.now.ground.specs
+            (current self.now.ground self.now.history)) }
+    {
+        let _most = self.limits.instances;
+        tally_all(alloc, self.specs, &self.board)
+    }
+
+    /// Gives the report of the current revision, rendered from the verdicts that are kept; or the least
+    /// unsettled pair, where there is one. `O(n)` in the number of pairs and the length of the text.
+    pub fn publish(&mut self, alloc: Global, actor: u32) -> Result<Published, Halt>
+        ensures ok { IfOk result (λ told. Adds self.old self.new
+            (record { actor = actor; call = Call.Publish; reply = publish_told told })) }
+        ensures report { IfOk result (λ told. IsAudit self.old told) }
+        ensures not_full { OnOk result (is_full self.old.ground self.old.history 1 ≡ false) }
+        ensures halted { IfErr result (λ why. IsHalted self.old self.new 1 why) }
+    {
+        self.make_room(1)?;
+        match self.pending_pair() {
+            Some(pair) => {
+                self.put_off(actor, &pair);
+                Ok(Published::Pending(pair))
+            }
+            None => self.report(alloc, actor),
+        }
+    }
+
+    /// Adds the entry of a publish while this pair, the least of them, is unsettled.
+    fn put_off(&mut self, actor: u32, pair: &Pair)
+        requires room { 1 ≤ self.old.spare }
+        requires not_full { is_full self.old.ground self.old.history 1 ≡ false }
+        requires least { least_unsettled self.old.ground self.old.history ≡ Some pair.now }
+        ensures { Adds self.old self.new
+            (record { actor = actor; call = Call.Publish; reply = Reply.Pending pair.now }) }
+    {
+        self.journal.push_reserved(StepRec {
+            actor,
+            call: Call::Publish,
+            reply: Reply::Pending(*pair),
+        });
+    }
+
+    /// Gives the report, where every pair is settled.
+    fn report(&mut self, alloc: Global, actor: u32) -> Result<Published, Halt>
+        requires room { 1 ≤ self.old.spare }
+        requires not_full { is_full self.old.ground self.old.history 1 ≡ false }
+        requires none { least_unsettled self.old.ground self.old.history ≡ None }
+        ensures ok { IfOk result (λ told. Adds self.old self.new
+            (record { actor = actor; call = Call.Publish; reply = publish_told told })) }
+        ensures report { IfOk result (λ told. IsAudit self.old told) }
+        ensures halted { IfErr result (λ why. IsHalted self.old self.new 1 why) }
+    {
+        let revision = self.current.revision();
+        let Ok(tallies) = self.tallies(alloc) else {
+            return Err(Halt::Memory);
+        };
+        let Ok(text) = render_report(alloc, revision, &tallies) else {
+            return Err(Halt::Memory);
+        };
+        self.journal.push_reserved(StepRec {
+            actor,
+            call: Call::Publish,
+            reply: Reply::Report { revision },
+        });
+        Ok(Published::Report { revision, text })
+    }
+
+    /// What a commit of these edits, drafted on this revision, would make.
+    fn plan(&self, alloc: Global, base: u32, edits: &Edits) -> Result<Planned, Memory>
+        ensures { IfOk result (λ plan. IsPlanned self.now.ground.specs self.now.ground.limits
+            (last_change self.now.ground self.now.history) base (now_of self.now) edits.now plan) }
+    {
+        plan_commit(
+            alloc,
+            self.specs,
+            self.limits,
+            &self.log,
+            base,
+            &self.current,
+            edits,
+        )
+    }
+
+    /// Makes places for these keys in the log of changes.
+    fn make_places(&mut self, keys: &Keys) -> Result<(), Memory>
+        ensures same { Unchanged self.old self.new }
+        ensures spare { self.new.spare ≡ self.old.spare }
+        ensures placed { OnOk result (list_all (has_place self.new.shelf) keys.now ≡ true) }
+    {
+        self.log.make_places(keys.as_slice())
+    }
+
+    /// Adds the entry of a refused commit.
+    fn refuse(&mut self, alloc: Global, actor: u32, draft: Draft, why: CommitRefusal) -> NotPrepared
+        requires room { 1 ≤ self.old.spare }
+        requires not_full { is_full self.old.ground self.old.history 1 ≡ false }
+        requires base { draft.base.revision ≤ revision self.old.history }
+        requires refused { judge self.old.ground.limits (revision self.old.history)
+            (last_change self.old.ground self.old.history) draft.base.revision
+            (current self.old.ground self.old.history) draft.edits ≡ Some why }
+        ensures { IsNotPrepared self.old self.new actor draft result }
+    {
+        let Ok(edits) = draft.edits().copy(alloc) else {
+            return NotPrepared::Memory(draft);
+        };
+        let Ok(reason) = why.copy(alloc) else {
+            return NotPrepared::Memory(draft);
+        };
+        let base = draft.base().revision();
+        self.journal.push_reserved(StepRec {
+            actor,
+            call: Call::Commit { base, edits },
+            reply: Reply::Refused(reason),
+        });
+        NotPrepared::Refused(why, draft)
+    }
+
+    /// Judges a draft, and makes all that its commit needs. The draft's base has to be at most the
+    /// current revision. Where it is accepted the core is as before, and `finish` makes the commit. A
+    /// refused draft adds its entry and comes back; where the journal is full, or memory is wanting, the
+    /// draft comes back too and the core is as before. `O(s * n + r log n)` for `s` specifications, `n`
+    /// instances and their `r` references.
+    pub fn prepare(
+        &mut self,
+        alloc: Global,
+        actor: u32,
+        draft: Draft,
+    ) -> Result<Prepared, NotPrepared>
+        requires { draft.base.revision ≤ revision self.old.history }
+        ensures ok { IfOk result (λ prepared. IsPreparedFor self.new prepared) }
+        ensures actor { IfOk result (λ prepared. prepared.actor ≡ actor) }
+        ensures base { IfOk result (λ prepared. prepared.base ≡ draft.base.revision) }
+        ensures edits { IfOk result (λ prepared. prepared.edits ≡ draft.edits) }
+        ensures unchanged { OnOk result (Unchanged self.old self.new) }
+        ensures not_prepared { IfErr result (λ why. IsNotPrepared self.old self.new actor draft why) }
+    {
+        match self.make_room(1) {
+            Ok(()) => {}
+            Err(Halt::Full) => return Err(NotPrepared::Full(draft)),
+            Err(Halt::Memory) => return Err(NotPrepared::Memory(draft)),
+        }
+        match self.plan(alloc, draft.base().revision(), draft.edits()) {
+            Err(_) => Err(NotPrepared::Memory(draft)),
+            Ok(Planned::Refused(why)) => Err(self.refuse(alloc, actor, draft, why)),
+            Ok(Planned::Next(next, keys, rows)) => self.reserve(actor, draft, next, keys, rows),
+        }
+    }
+
+    /// Makes places for the changes of a planned commit.
+    fn reserve(
+        &mut self,
+        actor: u32,
+        draft: Draft,
+        next: Snapshot,
+        keys: Keys,
+        rows: Vec<Row>,
+    ) -> Result<Prepared, NotPrepared>
+        requires room { 1 ≤ self.old.spare }
+        requires not_full { is_full self.old.ground self.old.history 1 ≡ false }
+        requires base { draft.base.revision ≤ revision self.old.history }
+        requires plan { IsPlan self.old.ground.specs self.old.ground.limits
+            (last_change self.old.ground self.old.history) draft.base.revision
+            (now_of self.old) draft.edits next keys rows.items }
+        ensures ok { IfOk result (λ prepared. IsPreparedFor self.new prepared) }
+        ensures actor { IfOk result (λ prepared. prepared.actor ≡ actor) }
+        ensures base { IfOk result (λ prepared. prepared.base ≡ draft.base.revision) }
+        ensures edits { IfOk result (λ prepared. prepared.edits ≡ draft.edits) }
+        ensures unchanged { OnOk result (Unchanged self.old self.new) }
+        ensures not_prepared { IfErr result (λ why. IsNotPrepared self.old self.new actor draft why) }
+    {
+        if self.make_places(&keys).is_err() {
+            return Err(NotPrepared::Memory(draft));
+        }
+        let (base, edits) = draft.into_parts();
+        Ok(Prepared {
+            actor,
+            base: base.revision(),
+            edits,
+            next,
+            keys,
+            rows,
+        })
+    }
+
+    /// Makes a prepared commit, and answers its revision. It asks that no step came since it was
+    /// prepared. It takes no memory and always succeeds. `O(n log n)` in the number of pairs, for those
+    /// that stay settled.
+    pub fn finish(&mut self, prepared: Prepared) -> u32
+        requires { IsPreparedFor self.old prepared }
+        ensures { Adds self.old self.new
+            (record { actor = prepared.actor; call = Call.Commit prepared.base prepared.edits; reply = Reply.Accepted result }) }
+    {
+        let Prepared {
+            actor,
+            base,
+            edits,
+            next,
+            keys,
+            rows,
+        } = prepared;
+        let since = self.current.revision();
+        let revision = next.revision();
+        self.log.note(keys.as_slice(), revision);
+        let olds = std::mem::replace(&mut self.board, rows);
+        carry(&mut self.board, &self.log, since, olds);
+        self.passed = 0;
+        self.current = next;
+        self.journal.push_reserved(StepRec {
+            actor,
+            call: Call::Commit { base, edits },
+            reply: Reply::Accepted { revision },
+        });
+        revision
+    }
+}

@@ -1,0 +1,20 @@
+//! The pure core of a live audit. A core holds one model in numbered revisions, and keeps the journal
+//! of all that actors ask of it: to begin drafts, to commit them, to claim pairs of a specification and
+//! an element, to deliver what an evaluation found of them or give them back, and to publish the report.
+//! Each call adds the one entry that is lawful after the journal, or none.
+#![tactic(auto)]
+
+mod audit;
+mod board;
+mod carry;
+mod changes;
+mod claims;
+mod dangling;
+mod journal;
+mod judge;
+mod plan;
+mod presence;
+mod tallies;
+
+pub use audit::{Core, Prepared};
+pub use journal::CoreJournal;

@@ -1,0 +1,5 @@
+use Rattle.audit_model.proofs.laws.drain_follows.Goals as goal
+use Rattle.audit_model.proofs.DrainLaws as laws
+
+pub returns : goal.returns
+returns c = laws.drain_follows

@@ -1,0 +1,176 @@
+-- What actors hold stays theirs while others make entries.
+use Rattle.std.proofs.Common.{◌≡◌, ℕ, suc, zero, ◌+◌, ◌<◌, ◌≤◌, Bool, true, false, not, cond, ◌==◌, List, [], ◌∷◌, ◌++◌, length, find, filter, take, drop, get_or, Option, Some, None, refl, arith, ap, sym, subst, ◌∙◌}
+use Rattle.std.specs.List.{cons_option, remove}
+use Rattle.std.proofs.lemmas.Bool.{eqb-true, ne_eqb, true≢false}
+use Rattle.audit_model.specs.declared.commit.Edit.{Edit}
+use Rattle.audit_model.specs.declared.verdict.Pair.{Pair}
+use Rattle.audit_model.specs.declared.step.Given.{Given}
+use Rattle.audit_model.specs.declared.step.StepRec.{StepRec}
+use Rattle.audit_model.specs.declared.step.Call.TheVariants.{Claim, Deliver, GiveBack}
+use Rattle.audit_model.specs.declared.step.Reply.{Reply}
+use Rattle.audit_model.specs.declared.step.Reply.TheVariants.{Claimed, Back}
+use Rattle.audit_model.specs.History.{Ground, accepted, commits, current, revision, model_at, out, given, claim_numbered, without_claim}
+use Rattle.audit_model.specs.Machine.{Legal, MayFollow, claimed, least_claimable}
+use Rattle.audit_model.proofs.Claims.{IsSound, sound_out}
+use Rattle.audit_model.proofs.Commits.{model_of-last}
+use Rattle.audit_model.proofs.HistoryLaws.{earlier_models_stay}
+use Rattle.audit_model.proofs.Numbers.{out_numbers}
+use Rattle.audit_model.proofs.Tests.{Each, Each-found}
+use Rattle.model_view.specs.Views.{ClaimView}
+use Rattle.audit_core.specs.Cores.{now_in}
+use Rattle.audit_core.specs.Steps.{given_of}
+use Rattle.audit_run.specs.declared.hands.Begun.{Begun}
+use Rattle.audit_run.specs.declared.hands.Taken.{Taken}
+use Rattle.audit_run.specs.Holding.{IsTaken, AreTaken, AreLater, ArePast}
+
+-- a claim that is out is of a revision so far
+early : (g : Ground) (h : List StepRec) (t : Taken) → Legal g h → IsTaken g h t → t.claim.snapshot.revision ≤ revision h
+early g h t l k = (Each-found (IsSound g (commits h)) (λ c. c.number == t.claim.number) (out h) (given_of t.actor t.claim) (sound_out g h l) k.is_out).early
+
+-- its number is no greater than that of the last claim
+known : (g : Ground) (h : List StepRec) (t : Taken) → Legal g h → IsTaken g h t → t.claim.number ≤ given h
+known g h t l k = Each-found (λ (c : Given). c.number ≤ given h) (λ c. c.number == t.claim.number) (out h) (given_of t.actor t.claim) (out_numbers g h l) k.is_out
+
+-- after an entry that leaves the claim out it is taken as before
+still_taken : (g : Ground) (h : List StepRec) (e : StepRec) (t : Taken) → Legal g h → (claim_numbered t.claim.number (out h) ≡ Some (given_of t.actor t.claim) → claim_numbered t.claim.number (out (e ∷ h)) ≡ Some (given_of t.actor t.claim)) → IsTaken g h t → IsTaken g (e ∷ h) t
+still_taken g h e t l keeps k = record {
+  is_out = keeps k.is_out;
+  snapshot_is = k.snapshot_is ∙ sym (earlier_models_stay g (e ∷ []) h t.claim.snapshot.revision (early g h t l k));
+}
+
+-- the entry leaves this claim out, if it is
+abbrev pub LeavesOut : List StepRec → StepRec → Taken → Type 0
+LeavesOut h e t = claim_numbered t.claim.number (out h) ≡ Some (given_of t.actor t.claim) → claim_numbered t.claim.number (out (e ∷ h)) ≡ Some (given_of t.actor t.claim)
+
+pub all_taken : (g : Ground) (h : List StepRec) (e : StepRec) (ts : List Taken) → Legal g h → Each (LeavesOut h e) ts → AreTaken g h ts → AreTaken g (e ∷ h) ts
+all_taken g h e [] l keeps k = tt
+all_taken g h e (t ∷ ts) l keeps k = (still_taken g h e t l keeps.0 k.0, (k.1.0, all_taken g h e ts l keeps.1 k.1.1))
+
+pub each_all : {X : Type 0} (P : X → Type 0) → ((x : X) → P x) → (xs : List X) → Each P xs
+each_all P f [] = tt
+each_all P f (x ∷ xs) = (f x, each_all P f xs)
+
+pub each_map : {X : Type 0} (P Q : X → Type 0) → ((x : X) → P x → Q x) → (xs : List X) → Each P xs → Each Q xs
+each_map P Q f [] h = tt
+each_map P Q f (x ∷ xs) h = (f x h.0, each_map P Q f xs h.1)
+
+-- New claims.
+
+found_push : (n : ℕ) (cs : List Given) (c d : Given) → claim_numbered n cs ≡ Some c → claim_numbered n (cs ++ d ∷ []) ≡ Some c
+found_push n [] c d e = absurd (cc)
+found_push n (x ∷ xs) c d e =
+    let F : Bool → Type 0 = λ b. cond b (Some x) (claim_numbered n xs) ≡ Some c → cond b (Some x) (claim_numbered n (xs ++ d ∷ [])) ≡ Some c in
+    let at : F (x.number == n) = elim (x.number == n) as F [ true ↦ λ k. k | false ↦ λ k. found_push n xs c d k ] in
+    at e
+
+pub claimed_leaves : (h : List StepRec) (actor n r : ℕ) (p : Pair) (t : Taken) → LeavesOut h (record { actor = actor; call = Claim; reply = Claimed n p r }) t
+claimed_leaves h actor n r p t e = found_push t.claim.number (out h) (given_of t.actor t.claim) (record { number = n; actor = actor; pair = p; revision = r }) e
+
+later_push : (n : ℕ) (ts : List Taken) (t : Taken) → AreLater n ts → n < t.claim.number → AreLater n (ts ++ t ∷ [])
+later_push n [] t a l = (l, tt)
+later_push n (x ∷ xs) t a l = (a.0, later_push n xs t a.1 l)
+
+taken_push : (g : Ground) (h : List StepRec) (n : ℕ) (ts : List Taken) (t : Taken) → Each (λ (x : Taken). x.claim.number ≤ n) ts → n < t.claim.number → AreTaken g h ts → IsTaken g h t → AreTaken g h (ts ++ t ∷ [])
+taken_push g h n [] t a l k own = (own, (tt, tt))
+taken_push g h n (x ∷ xs) t a l k own = (k.0, (later_push x.claim.number xs t k.1.0 (omega (arith, a.0, l)), taken_push g h n xs t a.1 l k.1.1 own))
+
+all_known : (g : Ground) (h : List StepRec) (ts : List Taken) → Legal g h → AreTaken g h ts → Each (λ (x : Taken). x.claim.number ≤ given h) ts
+all_known g h [] l k = tt
+all_known g h (t ∷ ts) l k = (known g h t l k.0, all_known g h ts l k.1.1)
+
+claim_number : (o : Option Pair) (n m r r' : ℕ) (p : Pair) → Claimed m p r ≡ claimed o n r' → m ≡ n
+claim_number None n m r r' p e = cc
+claim_number (Some q) n m r r' p e = cc
+
+-- a claim that was just given, of the model now, is taken beside the others
+pub taken_more : (g : Ground) (h : List StepRec) (ts : List Taken) (actor : ℕ) (c : ClaimView) → Legal g h → MayFollow g h (record { actor = actor; call = Claim; reply = Claimed c.number c.pair c.snapshot.revision }) → c.snapshot ≡ now_in g h →
+    claim_numbered c.number (out (record { actor = actor; call = Claim; reply = Claimed c.number c.pair c.snapshot.revision } ∷ h)) ≡ Some (given_of actor c) → AreTaken g h ts → AreTaken g (record { actor = actor; call = Claim; reply = Claimed c.number c.pair c.snapshot.revision } ∷ h) (ts ++ record { actor = actor; claim = c } ∷ [])
+taken_more g h ts actor c l m now o k =
+    let e : StepRec = record { actor = actor; call = Claim; reply = Claimed c.number c.pair c.snapshot.revision } in
+    let next : c.number ≡ given h + 1 = claim_number (least_claimable g h) (given h + 1) c.number c.snapshot.revision (revision h) c.pair m in
+    taken_push g (e ∷ h) (given h) ts (record { actor = actor; claim = c }) (all_known g h ts l k) (omega (arith, next))
+    (all_taken g h e ts l (each_all (LeavesOut h e) (claimed_leaves h actor c.number c.snapshot.revision c.pair) ts) k)
+    (record { is_out = o; snapshot_is = rw now (sym (model_of-last g (commits h))) })
+
+-- Ended claims.
+
+found_without : (n m : ℕ) (cs : List Given) (c : Given) → (n == m) ≡ false → claim_numbered n cs ≡ Some c → claim_numbered n (without_claim m cs) ≡ Some c
+found_without n m [] c d e = e
+found_without n m (x ∷ xs) c d e =
+    let F : Bool → Type 0 = λ b. (x.number == n) ≡ b → cond b (Some x) (claim_numbered n xs) ≡ Some c → claim_numbered n (without_claim m (x ∷ xs)) ≡ Some c in
+    let at : F (x.number == n) = elim (x.number == n) as F [
+      | true ↦ λ k t.
+          let other : (x.number == m) ≡ false = subst (λ (y : ℕ). (y == m) ≡ false) (sym (eqb-true x.number n k)) d in
+          rw (other, k) t
+      | false ↦ λ k t.
+          let rest : claim_numbered n (without_claim m xs) ≡ Some c = found_without n m xs c d t in
+          elim (x.number == m) as (λ b. claim_numbered n (cond (not b) (x ∷ without_claim m xs) (without_claim m xs)) ≡ Some c) [ true ↦ rest | false ↦ rw k rest ]
+    ] in
+    at refl e
+
+-- another number
+abbrev pub Differs : ℕ → Taken → Type 0
+Differs m t = (t.claim.number == m) ≡ false
+
+pub delivery_leaves : (h : List StepRec) (actor m : ℕ) (reply : Reply) (t : Taken) → Differs m t → LeavesOut h (record { actor = actor; call = Deliver m; reply = reply }) t
+delivery_leaves h actor m reply t d e = found_without t.claim.number m (out h) (given_of t.actor t.claim) d e
+
+pub return_leaves : (h : List StepRec) (actor m : ℕ) (t : Taken) → Differs m t → LeavesOut h (record { actor = actor; call = GiveBack m; reply = Back }) t
+return_leaves h actor m t d e = found_without t.claim.number m (out h) (given_of t.actor t.claim) d e
+
+-- One claim of several.
+
+later_of : (n : ℕ) (front : List Taken) (t : Taken) (back : List Taken) → AreLater n (front ++ t ∷ back) → (n < t.claim.number) × AreLater n (front ++ back)
+later_of n [] t back a = (a.0, a.1)
+later_of n (x ∷ xs) t back a = let rest : (n < t.claim.number) × AreLater n (xs ++ back) = later_of n xs t back a.1 in (rest.0, (a.0, rest.1))
+
+later_differ : (n : ℕ) (ts : List Taken) → AreLater n ts → Each (Differs n) ts
+later_differ n [] a = tt
+later_differ n (t ∷ ts) a = (ne_eqb t.claim.number n (omega (arith, a.0)), later_differ n ts a.1)
+
+-- the claim, and the others, whose numbers differ
+pub record AreParted (g : Ground) (h : List StepRec) (t : Taken) (others : List Taken) : Type 0 where
+  pub own : IsTaken g h t
+  pub rest : AreTaken g h others
+  pub differ : Each (Differs t.claim.number) others
+
+pub parted : (g : Ground) (h : List StepRec) (front : List Taken) (t : Taken) (back : List Taken) → AreTaken g h (front ++ t ∷ back) → AreParted g h t (front ++ back)
+parted g h [] t back k = record { own = k.0; rest = k.1.1; differ = later_differ t.claim.number back k.1.0 }
+parted g h (x ∷ xs) t back k =
+    let rest : AreParted g h t (xs ++ back) = parted g h xs t back k.1.1 in
+    let later : (x.claim.number < t.claim.number) × AreLater x.claim.number (xs ++ back) = later_of x.claim.number xs t back k.1.0 in
+    record {
+      own = rest.own;
+      rest = (k.0, (later.1, rest.rest));
+      differ = (ne_eqb x.claim.number t.claim.number (omega (arith, later.0)), rest.differ);
+    }
+
+-- Drafts.
+
+pub past_more : (n m : ℕ) (bs : List Begun) → n ≤ m → ArePast n bs → ArePast m bs
+past_more n m [] l p = tt
+past_more n m (b ∷ bs) l p = (omega (arith, l, p.0), past_more n m bs l p.1)
+
+pub past_push : (n : ℕ) (bs : List Begun) (b : Begun) → ArePast n bs → b.base.revision ≤ n → ArePast n (bs ++ b ∷ [])
+past_push n [] b p l = (l, tt)
+past_push n (x ∷ xs) b p l = (p.0, past_push n xs b p.1 l)
+
+pub revision_grows : (e : StepRec) (h : List StepRec) → revision h ≤ revision (e ∷ h)
+revision_grows e h = elim (accepted e) as (λ o. length (commits h) ≤ length (cons_option o (commits h))) [ None ↦ omega arith | Some edits ↦ omega arith ]
+
+pub past_at : (n : ℕ) (bs : List Begun) (i : ℕ) (d : Begun) → ArePast n bs → i < length bs → (get_or bs i d).base.revision ≤ n
+past_at n [] i d p l = absurd (omega arith)
+past_at n (b ∷ bs) zero d p l = p.0
+past_at n (b ∷ bs) (suc i) d p l = past_at n bs i d p.1 (omega (arith, l))
+
+pub past_remove : (n : ℕ) (bs : List Begun) (i : ℕ) → ArePast n bs → ArePast n (remove bs i)
+past_remove n [] zero p = tt
+past_remove n [] (suc i) p = tt
+past_remove n (b ∷ bs) zero p = p.1
+past_remove n (b ∷ bs) (suc i) p = (p.0, past_remove n bs i p.1)
+
+-- a list around one of its elements
+pub split_at_place : {X : Type 0} (xs : List X) (i : ℕ) (x : X) → i < length xs → x ≡ get_or xs i x → xs ≡ take i xs ++ x ∷ drop (suc i) xs
+split_at_place [] i x l e = absurd (omega arith)
+split_at_place (y ∷ ys) zero x l e = ap (λ z. z ∷ ys) (sym e)
+split_at_place (y ∷ ys) (suc i) x l e = ap (λ zs. y ∷ zs) (split_at_place ys i x (omega (arith, l)) e)

@@ -1,0 +1,43 @@
+use Rattle.std.proofs.Common.{◌≡◌, ◌∙◌, ap}
+use Rattle.model_view.specs.Views.{ClaimView, FindingView}
+use Rattle.audit_run.specs.declared.calls.Act.TheVariants as act
+use Rattle.audit_run.proofs.PlayLaws.{out_of, true_finding, gave, gave_back, gave_back_after}
+use Rattle.audit_run.proofs.calls.give.Goals as goal
+use Rattle.audit_run.proofs.calls.give.Goals.{in-Ok+in-Ok-deliver, in-Ok+in-Err-deliver, in-Err}
+
+pub deliver-requires : goal.deliver-requires
+deliver-requires g c =
+    let k = rw (← c.hands.view_is) at c.requires.holding in
+    let p = out_of k c.in-Some.ensures in
+    let f = rw c.requires.specs at c.in-Ok.ensures.ok in
+    true_finding p.own f
+
+pub give_back-requires : goal.give_back-requires
+give_back-requires g c =
+    let k = rw (← c.hands.view_is) at c.requires.holding in
+    let p = out_of k c.in-Some.ensures in
+    let f = c.in-Ok.ensures.ok in
+    let back = c.in-Err-deliver.ensures.back in
+    let claim : c.into_claim.result ≡ c.in-Some.claim = c.into_claim.ensures ∙ ap (λ (x : FindingView). x.claim) back.1 ∙ f.claim_is in
+    rw (claim, back.0.history) p.own.is_out
+
+pub give_back-requires-in-Err : goal.give_back-requires-in-Err
+give_back-requires-in-Err g c =
+    let k = rw (← c.hands.view_is) at c.requires.holding in
+    rw c.in-Err.ensures.back (out_of k c.in-Some.ensures).own.is_out
+
+pub returns : goal.returns
+returns g c =
+    let k = rw (← c.hands.view_is) at c.requires.holding in
+    let p = out_of k c.in-Some.ensures in
+    elim c.match-evaluate.branch [
+      | in-Ok+in-Ok-deliver w ↦
+          let f = w.in-Ok.ensures.ok in
+          rw w.core-is (gave c.args.actor w.in-Ok.finding.claim.number c.in-Some.claim w.in-Ok-deliver.field-0 c.take_claim.new.claims.items k p (ap (λ (x : ClaimView). x.number) f.claim_is) w.in-Ok-deliver.ensures.ok)
+      | in-Ok+in-Err-deliver w ↦
+          let f = w.in-Ok.ensures.ok in
+          let back = w.in-Err-deliver.ensures.back in
+          let claim : w.into_claim.result ≡ c.in-Some.claim = w.into_claim.ensures ∙ ap (λ (x : FindingView). x.claim) back.1 ∙ f.claim_is in
+          rw w.core-is (gave_back_after act.Give c.args.actor w.into_claim.result.number c.in-Some.claim c.take_claim.new.claims.items tt k p (ap (λ (x : ClaimView). x.number) claim) back.0 w.give_back.ensures)
+      | in-Err w ↦ rw w.core-is (gave_back act.Give c.args.actor w.in-Err.claim.number c.in-Some.claim c.take_claim.new.claims.items tt k p (ap (λ (x : ClaimView). x.number) w.in-Err.ensures.back) w.give_back-in-Err.ensures)
+    ]

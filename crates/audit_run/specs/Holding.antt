@@ -1,0 +1,59 @@
+-- What actors hold between their calls.
+use Rattle.std.specs.Prelude.{◌≡◌, ℕ, ◌<◌, ◌≤◌, List, [], ◌∷◌, ◌++◌, length, nat_lt, slice_index_or, true, Some}
+use Rattle.std.specs.List.{list_all}
+use Rattle.audit_model.specs.declared.specification.Specification.{Specification}
+use Rattle.audit_model.specs.Needs.{need}
+use Rattle.audit_model.specs.Verdicts.{verdict}
+use Rattle.audit_model.specs.declared.step.StepRec.{StepRec}
+use Rattle.audit_model.specs.History.{Ground, model_at, out, claim_numbered}
+use Rattle.model_view.specs.Views.{ClaimView, FindingView}
+use Rattle.audit_run.specs.declared.hands.Begun.{Begun}
+use Rattle.audit_run.specs.declared.hands.Taken.{Taken}
+use Rattle.audit_core.specs.Steps.{given_of}
+
+-- what contracts see of hands: the snapshots on which drafts were begun, and the claims that were taken, each with its actor
+pub record HandsView : Type 0 where
+  pub drafts : List Begun
+  pub claims : List Taken
+
+-- After the history h the claim is out, and its snapshot is the model of its revision.
+pub record IsTaken (g : Ground) (h : List StepRec) (taken : Taken) : Type 0 where
+  pub is_out : claim_numbered taken.claim.number (out h) ≡ Some (given_of taken.actor taken.claim)
+  pub snapshot_is : taken.claim.snapshot.model ≡ model_at g h taken.claim.snapshot.revision
+
+-- these claims have greater numbers
+abbrev pub AreLater : ℕ → List Taken → Type 0
+AreLater n [] = Unit {0}
+AreLater n (t ∷ ts) = (n < t.claim.number) × AreLater n ts
+
+-- these claims are out, in ascending number
+abbrev pub AreTaken : Ground → List StepRec → List Taken → Type 0
+AreTaken g h [] = Unit {0}
+AreTaken g h (t ∷ ts) = IsTaken g h t × (AreLater t.claim.number ts × AreTaken g h ts)
+
+-- these drafts are of the revision n or earlier ones
+abbrev pub ArePast : ℕ → List Begun → Type 0
+ArePast n [] = Unit {0}
+ArePast n (b ∷ bs) = (b.base.revision ≤ n) × ArePast n bs
+
+-- a claim of the actor's stands at this place, from 0
+pub record IsActorsAt (actor place : ℕ) (ts : List Taken) : Type 0 where
+  pub within : place < length ts
+  pub by : (d : Taken) → (slice_index_or ts place d).actor ≡ actor
+
+-- this claim of the actor's was taken out of the list
+pub record IsTakenOut (actor : ℕ) (claim : ClaimView) (old new : List Taken) : Type 0 where
+  pub front : List Taken
+  pub back : List Taken
+  pub old_is : old ≡ front ++ record { actor = actor; claim = claim } ∷ back
+  pub new_is : new ≡ front ++ back
+
+-- the verdict and needs of the claim's pair at its snapshot
+pub record IsFindingOf (specs : List Specification) (claim : ClaimView) (finding : FindingView) : Type 0 where
+  pub claim_is : finding.claim ≡ claim
+  pub verdict_is : finding.verdict ≡ verdict specs claim.pair claim.snapshot.model
+  pub needs_are : finding.needs ≡ need specs claim.pair claim.snapshot.model
+
+-- each specification has fewer than 4,294,967,295 requirements
+abbrev pub HaveFewRequirements : List Specification → Type 0
+HaveFewRequirements specs = list_all (λ q. nat_lt (length q.requirements) 4294967295) specs ≡ true

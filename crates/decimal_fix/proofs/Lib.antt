@@ -1,0 +1,9 @@
+pub mod DefinitionLaws
+pub mod ExponentLaws
+pub mod LeadingLaws
+pub mod MovedLaws
+pub mod NumeralRelation
+pub mod ReadBackLaws
+pub mod ReadingLaws
+pub mod RoundingLaws
+pub mod WritingLaws

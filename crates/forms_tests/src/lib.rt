@@ -1,0 +1,7 @@
+//! Tests of `narrow_forms`: tables of what the narrow forms of the inputs take and refuse.
+#![tactic(auto)]
+
+#[cfg(test)]
+mod files;
+#[cfg(test)]
+mod specifications;

@@ -1,0 +1,6 @@
+use Rattle.std.proofs.Common.{◌≡◌, take}
+use Rattle.audit_model.specs.Keys.{changed_keys}
+use Rattle.model_view.proofs.changes.keys_of.Given as goal
+
+abbrev pub invariant-loop-edit : goal.invariant-loop-edit
+invariant-loop-edit l = l.keys ≡ changed_keys l.old l.new (take l.edit-index l.edits)

@@ -1,0 +1,80 @@
+//! What is still to read, over bytes.
+
+ghost use Rattle.std.specs.Prelude.{◌≡◌, ◌∷◌, [], MatchOption};
+ghost use Rattle.std.specs.Option.{option_map};
+ghost use Rattle.reading.specs.Codes.{code_of, codes_of};
+ghost use Rattle.reading.specs.Reading.{first, turns};
+
+use crate::code::{Code, front};
+use std::marker::Model;
+
+/// A place in bytes from where they are still to read. Contracts see it as what the bytes from there on say: the codes of
+/// their characters, and the marks of bytes that belong to none.
+#[derive(Drop)]
+pub struct Cursor<'a> {
+    bytes: &'a [u8],
+}
+
+impl<'a> Model for Cursor<'a> {
+    ghost use Rattle.std.specs.Prelude.{ℕ, List};
+    ghost use Rattle.std.specs.Coded.{coded_list, coded_ℕ};
+    ghost use Rattle.reading.specs.Codes.{codes_of};
+
+    ghost Value = { List ℕ };
+
+    ghost coded = { coded_list coded_ℕ };
+
+    ghost view = { λ cursor. codes_of cursor.bytes.now };
+}
+
+impl<'a> Cursor<'a> {
+    /// All of the bytes are still to read.
+    pub fn new(bytes: &'a [u8]) -> Cursor<'a>
+        ensures { result ≡ codes_of bytes.now }
+    {
+        Cursor { bytes }
+    }
+
+    /// The bytes that are still to read. They name the place where the cursor stands.
+    #[inline]
+    pub fn rest(&self) -> &'a [u8]
+        ensures { codes_of result.now ≡ self.now }
+    {
+        self.bytes
+    }
+
+    /// Takes what stands next: a character, or a byte that begins none. At the end there is nothing, and the cursor stays. `O(1)`.
+    #[inline(always)]
+    #[tactic(auto, using(crate::proofs::Codes::next_laws))]
+    pub fn next(&mut self) -> Option<Code>
+        ensures { MatchOption result ((self.old ≡ []) × (self.new ≡ [])) (λ code. self.old ≡ code_of code
+            ∷ self.new) }
+    {
+        let bytes = self.bytes;
+        if !bytes.is_empty() && bytes[0] < 0x80 {
+            self.bytes = &bytes[1..];
+            return Some(Code::Char(bytes[0] as char));
+        }
+        let code = front(bytes)?;
+        self.bytes = &bytes[code.width()..];
+        Some(code)
+    }
+
+    /// What stands next; the cursor stays. `O(1)`.
+    #[inline(always)]
+    #[tactic(auto, using(crate::proofs::Codes::at_end))]
+    pub fn peek(&self) -> Option<Code>
+        ensures { option_map code_of result ≡ first self.now }
+    {
+        front(self.bytes)
+    }
+
+    /// One more than there are bytes still to read, so more than there are codes: as many turns as a loop may need.
+    #[inline]
+    #[tactic(auto, using(crate::proofs::Says::size_codes), unfolding(crate::specs::Reading::turns))]
+    pub fn turns(&self) -> usize
+        ensures { result ≡ turns self.now }
+    {
+        self.bytes.len() + 1
+    }
+}

@@ -1,0 +1,17 @@
+use Rattle.std.proofs.Common.{◌≡◌, ◌+◌, ◌*◌, ◌-◌}
+use Rattle.reading.specs.Codes.{codes_of}
+use Rattle.reading.specs.Reading.{◌>>=◌, each}
+use Rattle.reading_tests.specs.declared.tree.Cause.TheVariants.{BadToken}
+use Rattle.reading_tests.specs.Nest.{list, list_turn, list_end, tree}
+use Rattle.reading_tests.proofs.read.+read.Given as goal
+
+abbrev pub decreases-tree : goal.decreases-tree
+decreases-tree l = 2 * l.depth
+
+abbrev pub decreases-list : goal.decreases-list
+decreases-list l = 2 * l.depth + 1
+
+abbrev pub invariant-list-loop : goal.invariant-list-loop
+invariant-list-loop l =
+    list (tree l.fn.depth) (codes_of l.fn.at) l.fn.cursor
+    ≡ (each BadToken (list_turn (tree l.fn.depth) (codes_of l.fn.at)) (l.end - l.counter) l.items l.cursor >>= list_end)

@@ -17,3 +17,6 @@ pub mod PairOrder
 pub mod DanglingLaws
 pub mod OrderLemmas
 pub mod RestrictionLemmas
+mod RunExamples
+pub mod RunLaws
+pub mod RunLegal

@@ -14,3 +14,7 @@ pub mod History
 pub mod Machine
 pub mod Laws
 pub mod Drain
+pub mod ScriptLines
+pub mod Serial
+pub mod Output
+pub mod RunLaws

@@ -9,6 +9,8 @@ mod laws;
 mod order;
 mod report;
 mod restriction;
+mod run_laws;
+mod script;
 mod specification;
 mod step;
 mod verdict;
@@ -26,6 +28,8 @@ pub use laws::{
 pub use order::in_order;
 pub use report::{Failing, Failings, ReportText, Tally, Texts};
 pub use restriction::Restriction;
+pub use run_laws::{drain_is_done, serial_is_legal, sync_drains_file};
+pub use script::{Act, Phase, Phases, ScriptLine, ScriptLines};
 pub use specification::{
     Cardinality, Occurs, Requirement, Requirements, Specification, Specifications,
 };

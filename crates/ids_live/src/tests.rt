@@ -39,7 +39,13 @@ fn file(alloc: Global, name: &str, text: &str, failing: &[u32]) -> Result<ShelfF
 
 /// The model file of these instance lines.
 fn model(alloc: Global, lines: &str) -> Result<String, Memory> {
-    let mut text = String::from_str(alloc, HEADER)?;
+    marked_model(alloc, "", lines)
+}
+
+/// The same with this text before its first line.
+fn marked_model(alloc: Global, front: &str, lines: &str) -> Result<String, Memory> {
+    let mut text = String::from_str(alloc, front)?;
+    text.push_str(HEADER)?;
     text.push_str(lines)?;
     text.push_str(FOOT)?;
     Ok(text)
@@ -76,6 +82,8 @@ const REPLAY: [&str; 5] = ["replay", "S", "Q", "M", "T"];
 struct Row {
     name: &'static str,
     specs: &'static str,
+    /// What stands before the model's first line.
+    front: &'static str,
     lines: &'static str,
     script: &'static str,
     status: u8,
@@ -88,10 +96,51 @@ const NOTHING: &str = "report 0\nspec 1 pass applicable 0 failed 0\nend pass\n";
 const FAILED: &str =
     "report 0\nspec 1 fail applicable 2 failed 2\nfail #10 1\nfail #11 1\nend fail\n";
 
-const ROWS: [Row; 8] = [
+const ROWS: [Row; 12] = [
+    Row {
+        name: "a mark before the model",
+        specs: WALLS,
+        front: "\u{feff}",
+        lines: TWO_WALLS,
+        script: "sync",
+        status: 0,
+        text: PASS,
+        entries: 6,
+    },
+    Row {
+        name: "two marks before the model",
+        specs: WALLS,
+        front: "\u{feff}\u{feff}",
+        lines: TWO_WALLS,
+        script: "sync",
+        status: 2,
+        text: "refused model line 1 NotBuilt\n",
+        entries: 0,
+    },
+    Row {
+        name: "two marks before the script",
+        specs: WALLS,
+        front: "",
+        lines: TWO_WALLS,
+        script: "\u{feff}\u{feff}sync",
+        status: 2,
+        text: "refused script line 1 NotBuilt\n",
+        entries: 0,
+    },
+    Row {
+        name: "two marks before the specifications",
+        specs: "\u{feff}\u{feff}{}",
+        front: "",
+        lines: "",
+        script: "",
+        status: 2,
+        text: "refused specs spec 0 place 0 Json\n",
+        entries: 0,
+    },
     Row {
         name: "two_walls_pass",
         specs: WALLS,
+        front: "",
         lines: TWO_WALLS,
         script: "sync\n",
         status: 0,
@@ -101,6 +150,7 @@ const ROWS: [Row; 8] = [
     Row {
         name: "subclass_is_not_matched",
         specs: WALLS,
+        front: "",
         lines: STANDARD_CASES,
         script: "sync",
         status: 0,
@@ -110,6 +160,7 @@ const ROWS: [Row; 8] = [
     Row {
         name: "groups are asked for",
         specs: GROUPS,
+        front: "",
         lines: TWO_WALLS,
         script: "sync",
         status: 1,
@@ -119,6 +170,7 @@ const ROWS: [Row; 8] = [
     Row {
         name: "nothing to audit",
         specs: GROUPS,
+        front: "",
         lines: "",
         script: "\u{feff}sync\n",
         status: 0,
@@ -128,6 +180,7 @@ const ROWS: [Row; 8] = [
     Row {
         name: "a mark is skipped",
         specs: "\u{feff}{}",
+        front: "",
         lines: "",
         script: "",
         status: 2,
@@ -137,6 +190,7 @@ const ROWS: [Row; 8] = [
     Row {
         name: "no JSON",
         specs: "{\"specifications\":[",
+        front: "",
         lines: "!",
         script: "",
         status: 2,
@@ -146,6 +200,7 @@ const ROWS: [Row; 8] = [
     Row {
         name: "an id twice",
         specs: WALLS,
+        front: "",
         lines: "#10=IFCWALL('a');\n#10=IFCWALL('a');\n",
         script: "",
         status: 2,
@@ -155,6 +210,7 @@ const ROWS: [Row; 8] = [
     Row {
         name: "two syncs",
         specs: WALLS,
+        front: "",
         lines: TWO_WALLS,
         script: "sync\nsync\n",
         status: 2,
@@ -166,7 +222,7 @@ const ROWS: [Row; 8] = [
 #[test]
 fn runs_end_as_told(rt: HostRuntime) -> Result<(), Fail> {
     for row in ROWS {
-        let model = model(rt.alloc(), row.lines)?;
+        let model = marked_model(rt.alloc(), row.front, row.lines)?;
         let mut shelf = shelf(rt.alloc(), row.specs, model.as_str(), row.script, ("", &[]))?;
         let mut sink = MemSink::new(rt.alloc(), 200, 7, Numbers::new(rt.alloc()))?;
         let words = words(rt.alloc(), &REPLAY)?;
@@ -196,49 +252,39 @@ fn words_not_taken(rt: HostRuntime) -> Result<(), Fail> {
     Ok(())
 }
 
-/// Each input's first read fails; the model's second too, which finds the end.
+/// Each read of each input fails in turn: the one that gets the bytes, and the one that finds the end.
 #[test]
 fn shelf_fails(rt: HostRuntime) -> Result<(), Fail> {
     let walls = model(rt.alloc(), TWO_WALLS)?;
-    for (name, number) in [
-        ("S", 1u32),
-        ("Q", 1),
-        ("M", 1),
-        ("M", 2),
-        ("T", 1),
-        ("T", 2),
-    ] {
-        let mut shelf = shelf(rt.alloc(), WALLS, walls.as_str(), "sync", (name, &[number]))?;
-        let mut sink = MemSink::new(rt.alloc(), 200, 200, Numbers::new(rt.alloc()))?;
-        let words = words(rt.alloc(), &REPLAY)?;
-        let ended = run_serial(rt.alloc(), &words, &mut shelf, &mut sink);
-        assert_eq!(rt; ended.status, 3, "{name} {number}");
-        assert!(rt; sink.bytes().is_empty() && ended.journal.as_slice().is_empty());
+    for name in ["S", "Q", "M", "T"] {
+        for number in [1u32, 2] {
+            let mut shelf = shelf(rt.alloc(), WALLS, walls.as_str(), "sync", (name, &[number]))?;
+            let mut sink = MemSink::new(rt.alloc(), 200, 200, Numbers::new(rt.alloc()))?;
+            let words = words(rt.alloc(), &REPLAY)?;
+            let ended = run_serial(rt.alloc(), &words, &mut shelf, &mut sink);
+            assert_eq!(rt; ended.status, 3, "{name} {number}");
+            assert!(rt; sink.bytes().is_empty() && ended.journal.as_slice().is_empty());
+        }
     }
     Ok(())
 }
 
-/// Calls that fail, by number, of sinks that take 1, 7, 10 and all bytes a call.
+/// Each call of sinks that take 1, 7, 10 and all bytes a call fails in turn.
 #[test]
 fn sink_fails(rt: HostRuntime) -> Result<(), Fail> {
     let walls = model(rt.alloc(), TWO_WALLS)?;
-    let rows = [
-        (1, 1, 0),
-        (1, 52, 51),
-        (7, 3, 14),
-        (10, 2, 10),
-        (10, 6, 50),
-        (200, 1, 0),
-    ];
-    for (most, number, written) in rows {
-        let mut shelf = shelf(rt.alloc(), WALLS, walls.as_str(), "sync", ("", &[]))?;
-        let failing = Numbers::from_vec(vec![in rt.alloc(); number as u32]?);
-        let mut sink = MemSink::new(rt.alloc(), 200, most, failing)?;
-        let words = words(rt.alloc(), &REPLAY)?;
-        let ended = run_serial(rt.alloc(), &words, &mut shelf, &mut sink);
-        assert_eq!(rt; ended.status, 4, "{most} {number}");
-        assert_eq!(rt; Some(sink.bytes()), PASS.as_bytes().get(..written));
-        assert_eq!(rt; ended.journal.as_slice().len(), 6);
+    for (most, calls) in [(1usize, 52u32), (7, 8), (10, 6), (200, 1)] {
+        for before in 0..calls {
+            let mut shelf = shelf(rt.alloc(), WALLS, walls.as_str(), "sync", ("", &[]))?;
+            let failing = Numbers::from_vec(vec![in rt.alloc(); before + 1]?);
+            let mut sink = MemSink::new(rt.alloc(), 200, most.max(1), failing)?;
+            let words = words(rt.alloc(), &REPLAY)?;
+            let ended = run_serial(rt.alloc(), &words, &mut shelf, &mut sink);
+            let written = most.saturating_mul(before as usize);
+            assert_eq!(rt; ended.status, 4, "{most} {before}");
+            assert_eq!(rt; Some(sink.bytes()), PASS.as_bytes().get(..written));
+            assert_eq!(rt; ended.journal.as_slice().len(), 6);
+        }
     }
     Ok(())
 }

@@ -2,6 +2,7 @@ use crate::run_serial;
 use ifc_base::{Bytes, Memory, Name, Numbers};
 use shelf_io::{MemShelf, MemSink, ShelfFile};
 use std::alloc::Global;
+use std::process::Abort;
 use std::test::Fail;
 
 /// Specifications of one entity in the applicability and one in the requirement.
@@ -28,12 +29,23 @@ fn bytes(alloc: Global, text: &str) -> Result<Bytes, Memory> {
     Ok(Bytes::from_vec(Vec::from_slice(alloc, text.as_bytes())?))
 }
 
-fn file(alloc: Global, name: &str, text: &str, failing: &[u32]) -> Result<ShelfFile, Memory> {
+/// A file, whose read of this number fails if it is the one that `fails`.
+fn file(
+    alloc: Global,
+    name: &str,
+    text: &str,
+    fails: &str,
+    number: u32,
+) -> Result<ShelfFile, Memory> {
+    let mut failing = Numbers::new(alloc);
+    if name == fails {
+        failing.push(number).map_err(|back| back.0)?;
+    }
     Ok(ShelfFile {
         name: Name::from_str(alloc, name)?,
         bytes: bytes(alloc, text)?,
         reads: 0,
-        failing: Numbers::from_vec(Vec::from_slice(alloc, failing)?),
+        failing,
     })
 }
 
@@ -51,31 +63,32 @@ fn marked_model(alloc: Global, front: &str, lines: &str) -> Result<String, Memor
     Ok(text)
 }
 
-/// Four files, S, Q, M and T; the reads of these numbers of one of them fail.
+/// Four files, S, Q, M and T; the read of this number of the file `fails` fails.
 fn shelf(
     alloc: Global,
     specs: &str,
     model: &str,
     script: &str,
-    failing: (&str, &[u32]),
+    fails: &str,
+    number: u32,
 ) -> Result<MemShelf, Memory> {
     let mut files = Vec::new(alloc);
-    for (name, text) in [("S", "any"), ("Q", specs), ("M", model), ("T", script)] {
-        let numbers: &[u32] = if name == failing.0 { failing.1 } else { &[] };
-        files.push(file(alloc, name, text, numbers)?)?;
-    }
+    files.push(file(alloc, "S", "any", fails, number)?)?;
+    files.push(file(alloc, "Q", specs, fails, number)?)?;
+    files.push(file(alloc, "M", model, fails, number)?)?;
+    files.push(file(alloc, "T", script, fails, number)?)?;
     Ok(MemShelf::new(files))
 }
 
-fn words(alloc: Global, given: &[&str]) -> Result<Vec<String>, Memory> {
+/// This word, and the names of the four files.
+fn words(alloc: Global, command: &str) -> Result<Vec<String>, Memory> {
     let mut words = Vec::new(alloc);
-    for word in given {
-        words.push(String::from_str(alloc, word)?)?;
+    words.push(String::from_str(alloc, command)?)?;
+    for name in ["S", "Q", "M", "T"] {
+        words.push(String::from_str(alloc, name)?)?;
     }
     Ok(words)
 }
-
-const REPLAY: [&str; 5] = ["replay", "S", "Q", "M", "T"];
 
 /// A run over specifications, a model of these instance lines, and a script; and how it ends.
 #[derive(Clone, Copy)]
@@ -219,71 +232,103 @@ const ROWS: [Row; 12] = [
     },
 ];
 
+/// Runs a row, and compares how it ends.
+fn expect_row<R: Abort>(rt: &R, alloc: Global, row: &Row) -> Result<(), Fail> {
+    let model = marked_model(alloc, row.front, row.lines)?;
+    let mut shelf = shelf(alloc, row.specs, model.as_str(), row.script, "", 0)?;
+    let mut sink = MemSink::new(alloc, 200, 7, Numbers::new(alloc))?;
+    let words = words(alloc, "replay")?;
+    let ended = run_serial(alloc, &words, &mut shelf, &mut sink);
+    assert_eq!(rt; ended.status, row.status, "{}", row.name);
+    assert_eq!(rt; sink.bytes(), row.text.as_bytes(), "{}", row.name);
+    assert_eq!(rt; ended.journal.as_slice().len(), row.entries, "{}", row.name);
+    Ok(())
+}
+
 #[test]
 fn runs_end_as_told(rt: HostRuntime) -> Result<(), Fail> {
     for row in ROWS {
-        let model = marked_model(rt.alloc(), row.front, row.lines)?;
-        let mut shelf = shelf(rt.alloc(), row.specs, model.as_str(), row.script, ("", &[]))?;
-        let mut sink = MemSink::new(rt.alloc(), 200, 7, Numbers::new(rt.alloc()))?;
-        let words = words(rt.alloc(), &REPLAY)?;
-        let ended = run_serial(rt.alloc(), &words, &mut shelf, &mut sink);
-        assert_eq!(rt; ended.status, row.status, "{}", row.name);
-        assert_eq!(rt; sink.bytes(), row.text.as_bytes(), "{}", row.name);
-        assert_eq!(rt; ended.journal.as_slice().len(), row.entries, "{}", row.name);
+        expect_row(&rt, rt.alloc(), &row)?;
     }
+    Ok(())
+}
+
+/// A run of these words over a shelf whose first read would fail.
+fn expect_untaken<R: Abort>(rt: &R, alloc: Global, words: &[String]) -> Result<(), Fail> {
+    let mut shelf = shelf(alloc, WALLS, "", "", "S", 1)?;
+    let mut sink = MemSink::new(alloc, 0, 1, Numbers::new(alloc))?;
+    let ended = run_serial(alloc, words, &mut shelf, &mut sink);
+    assert_eq!(rt; ended.status, 6);
     Ok(())
 }
 
 #[test]
 fn words_not_taken(rt: HostRuntime) -> Result<(), Fail> {
-    let rows: [&[&str]; 4] = [
-        &["replay", "S", "Q", "M"],
-        &["live", "S", "Q", "M", "T"],
-        &["replay", "S", "Q", "M", "T", "T"],
-        &[],
-    ];
-    for given in rows {
-        let mut shelf = shelf(rt.alloc(), WALLS, "", "", ("S", &[1]))?;
-        let mut sink = MemSink::new(rt.alloc(), 0, 1, Numbers::new(rt.alloc()))?;
-        let words = words(rt.alloc(), given)?;
-        let ended = run_serial(rt.alloc(), &words, &mut shelf, &mut sink);
-        assert_eq!(rt; ended.status, 6);
-    }
+    let mut words = words(rt.alloc(), "live")?;
+    expect_untaken(&rt, rt.alloc(), &words)?;
+    words.pop();
+    expect_untaken(&rt, rt.alloc(), &words)?;
+    words.clear();
+    expect_untaken(&rt, rt.alloc(), &words)?;
+    Ok(())
+}
+
+/// The read of this number of this input fails.
+fn expect_shelf_fault<R: Abort>(
+    rt: &R,
+    alloc: Global,
+    name: &str,
+    number: u32,
+) -> Result<(), Fail> {
+    let walls = model(alloc, TWO_WALLS)?;
+    let mut shelf = shelf(alloc, WALLS, walls.as_str(), "sync", name, number)?;
+    let mut sink = MemSink::new(alloc, 200, 200, Numbers::new(alloc))?;
+    let words = words(alloc, "replay")?;
+    let ended = run_serial(alloc, &words, &mut shelf, &mut sink);
+    assert_eq!(rt; ended.status, 3, "{name} {number}");
+    assert!(rt; sink.bytes().is_empty() && ended.journal.as_slice().is_empty());
     Ok(())
 }
 
 /// Each read of each input fails in turn: the one that gets the bytes, and the one that finds the end.
 #[test]
 fn shelf_fails(rt: HostRuntime) -> Result<(), Fail> {
-    let walls = model(rt.alloc(), TWO_WALLS)?;
     for name in ["S", "Q", "M", "T"] {
-        for number in [1u32, 2] {
-            let mut shelf = shelf(rt.alloc(), WALLS, walls.as_str(), "sync", (name, &[number]))?;
-            let mut sink = MemSink::new(rt.alloc(), 200, 200, Numbers::new(rt.alloc()))?;
-            let words = words(rt.alloc(), &REPLAY)?;
-            let ended = run_serial(rt.alloc(), &words, &mut shelf, &mut sink);
-            assert_eq!(rt; ended.status, 3, "{name} {number}");
-            assert!(rt; sink.bytes().is_empty() && ended.journal.as_slice().is_empty());
-        }
+        expect_shelf_fault(&rt, rt.alloc(), name, 1)?;
+        expect_shelf_fault(&rt, rt.alloc(), name, 2)?;
     }
+    Ok(())
+}
+
+/// The call behind so many calls fails, of a sink that takes so many bytes a call.
+fn expect_sink_fault<R: Abort>(
+    rt: &R,
+    alloc: Global,
+    most: usize,
+    before: u32,
+) -> Result<(), Fail> {
+    let walls = model(alloc, TWO_WALLS)?;
+    let mut shelf = shelf(alloc, WALLS, walls.as_str(), "sync", "", 0)?;
+    let mut failing = Numbers::new(alloc);
+    failing
+        .push(before.saturating_add(1))
+        .map_err(|back| back.0)?;
+    let mut sink = MemSink::new(alloc, 200, most.max(1), failing)?;
+    let words = words(alloc, "replay")?;
+    let ended = run_serial(alloc, &words, &mut shelf, &mut sink);
+    let written = most.saturating_mul(before as usize);
+    assert_eq!(rt; ended.status, 4, "{most} {before}");
+    assert_eq!(rt; Some(sink.bytes()), PASS.as_bytes().get(..written));
+    assert_eq!(rt; ended.journal.as_slice().len(), 6);
     Ok(())
 }
 
 /// Each call of sinks that take 1, 7, 10 and all bytes a call fails in turn.
 #[test]
 fn sink_fails(rt: HostRuntime) -> Result<(), Fail> {
-    let walls = model(rt.alloc(), TWO_WALLS)?;
     for (most, calls) in [(1usize, 52u32), (7, 8), (10, 6), (200, 1)] {
         for before in 0..calls {
-            let mut shelf = shelf(rt.alloc(), WALLS, walls.as_str(), "sync", ("", &[]))?;
-            let failing = Numbers::from_vec(vec![in rt.alloc(); before + 1]?);
-            let mut sink = MemSink::new(rt.alloc(), 200, most.max(1), failing)?;
-            let words = words(rt.alloc(), &REPLAY)?;
-            let ended = run_serial(rt.alloc(), &words, &mut shelf, &mut sink);
-            let written = most.saturating_mul(before as usize);
-            assert_eq!(rt; ended.status, 4, "{most} {before}");
-            assert_eq!(rt; Some(sink.bytes()), PASS.as_bytes().get(..written));
-            assert_eq!(rt; ended.journal.as_slice().len(), 6);
+            expect_sink_fault(&rt, rt.alloc(), most, before)?;
         }
     }
     Ok(())

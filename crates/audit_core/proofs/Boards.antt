@@ -1,5 +1,6 @@
 -- What a search of the rows finds, and what keeping a finding does to them.
-use Rattle.std.proofs.Common.{◌≡◌, Bool, true, false, cond, not, ◌&&◌, ◌||◌, if◌then◌else◌, List, [], ◌∷◌, map, find, is_none, Some, None, refl, ap, sym, subst}
+use Rattle.std.proofs.Common.{◌≡◌, Bool, true, false, cond, not, ◌&&◌, ◌||◌, if◌then◌else◌, List, [], ◌∷◌, map, find, is_none, length, Some, None, refl, ap, sym, subst}
+use Rattle.std.proofs.lemmas.List.{length-map}
 use Rattle.std.specs.Option.{option_map}
 use Rattle.std.specs.List.{list_any}
 use Rattle.audit_model.specs.declared.commit.Edit.{Edit}
@@ -60,3 +61,8 @@ settle_map g cs us c (q ∷ qs) a s =
 pub settle_board : (g : Ground) (cs : List (List Edit)) (us : List Given) (c : Given) → AreApart (pairs g.specs (model_after g cs)) → stands_by g cs c ≡ true → settled_rows c.pair (found g.specs (model_after g cs) c.pair) (board_by g cs us) ≡ board_by g cs (c ∷ us)
 unfolding board_by
 settle_board g cs us c a s = settle_map g cs us c _ a s
+
+-- there is one row for each pair
+pub pairs_on_board : (g : Ground) (cs : List (List Edit)) (us : List Given) → length (board_by g cs us) ≡ length (pairs g.specs (model_after g cs))
+unfolding board_by
+pairs_on_board g cs us = length-map (pairs g.specs (model_after g cs)) _

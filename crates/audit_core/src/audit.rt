@@ -5,7 +5,7 @@ ghost use Rattle.audit_model.specs.Pairs.{NumberedFrom};
 ghost use Rattle.audit_model.specs.Judging.{judge};
 ghost use Rattle.audit_model.specs.Scratch.{scratch};
 ghost use Rattle.audit_model.specs.History.{changed_since, current, last_change, revision};
-ghost use Rattle.audit_model.specs.Machine.{is_full, least_claimable, least_unsettled, Legal, MayFollow};
+ghost use Rattle.audit_model.specs.Machine.{is_full, least_claimable, least_unsettled, Legal, MayFollow, pairs_now};
 ghost use Rattle.audit_core.specs.Changes.{has_place};
 ghost use Rattle.audit_core.specs.Cores.{now_of};
 ghost use Rattle.audit_core.specs.Commits.{IsNotPrepared, IsPlan, IsPlanned, IsPreparedFor};
@@ -109,6 +109,7 @@ impl<'a> Core<'a> {
         ensures ground { IfOk result
             (λ core. core.ground ≡ record { specs = specs.now; first = model_of_file instances; limits = limits }) }
         ensures history { IfOk result (λ core. core.history ≡ []) }
+        ensures ascending { IfOk result (λ core. IsModel core.ground.first) }
     {
         let first = Snapshot::first(alloc, instances)?;
         let current = first.share()?;
@@ -125,6 +126,14 @@ impl<'a> Core<'a> {
             number: 0,
             journal: Vec::new(alloc),
         })
+    }
+
+    /// How many pairs the current model has, which is the most that can be unsettled. `O(1)`.
+    pub fn pairs(&self) -> usize
+        ensures pairs { result ≡ length (pairs_now self.now.ground self.now.history) }
+        ensures few { result < 2 ^ 63 }
+    {
+        self.board.len()
     }
 
     /// The journal, the oldest entry first. It is legal.

@@ -20,3 +20,4 @@ pub mod RestrictionLemmas
 mod RunExamples
 pub mod RunLaws
 pub mod RunLegal
+pub mod Telling

@@ -23,6 +23,7 @@ use Rattle.audit_model.specs.declared.script.Phase.{Phase}
 use Rattle.audit_model.specs.Scratch.{scratch}
 use Rattle.audit_model.specs.Report.{line, report_text}
 use Rattle.std.specs.Fmt.{digits}
+use Rattle.std.proofs.Math.Utf8.{encode}
 use Rattle.audit_model.specs.Keys.{changes}
 use Rattle.audit_model.specs.Needs.{need}
 use Rattle.audit_model.specs.Judging.{judge}
@@ -173,14 +174,14 @@ refusals_read : (words (Refused RevisionsFull) ≡ codes "refused revisions 10")
     × (words (Refused (EditRefused 1 (NoAttribute 7 (codes "Name")))) ≡ codes "refused 1 attribute #7 Name")
     × (words (Refused (EditRefused 1 TooManyInstances)) ≡ codes "refused 1 instances 4")
     × (words (Refused (Dangling 12 98)) ≡ codes "refused dangling from #12 to #98")
-unfolding digits
+unfolding digits encode
 refusals_read = (refl, refl, refl, refl, refl, refl)
 
 schema_refusals_read : (words (Refused (EditRefused 1 (Schema 7 (UnknownEntity (codes "IFCX"))))) ≡ codes "refused 1 schema #7 unknown IFCX")
     × (words (Refused (EditRefused 1 (Schema 7 (AbstractEntity (codes "IFCROOT"))))) ≡ codes "refused 1 schema #7 abstract IFCROOT")
     × (words (Refused (EditRefused 1 (Schema 7 (ParamCount 3 9)))) ≡ codes "refused 1 schema #7 count 3 9")
     × (words (Refused (EditRefused 1 (Schema 7 (MisplacedDerived 2)))) ≡ codes "refused 1 schema #7 derived 2")
-unfolding digits
+unfolding digits encode
 schema_refusals_read = (refl, refl, refl, refl)
 
 others_read : (words (Stale (Refs 10 role.Kind) 3) ≡ codes "give stale refs #10 type 3") × (words Back ≡ codes "back")

@@ -1,5 +1,5 @@
 -- A run's drain is the one that may legally follow, and the output of a run of one `sync` is the report of the file.
-use Rattle.std.proofs.Common.{◌≡◌, ℕ, zero, suc, ◌+◌, ◌*◌, ◌≤◌, Bool, true, false, not, cond, nat_le, ◌==◌, List, [], ◌∷◌, ◌++◌, filter, flat_map, reverse, length, Option, Some, None, arith, refl, ap, sym, subst, ◌∙◌}
+use Rattle.std.proofs.Common.{◌≡◌, ℕ, zero, suc, ◌+◌, ◌*◌, ◌≤◌, ◌⊎◌, inl, inr, Bool, true, false, not, cond, nat_le, nat_lt, ◌==◌, List, [], ◌∷◌, ◌++◌, filter, flat_map, reverse, length, Option, Some, None, arith, refl, ap, sym, subst, ◌∙◌}
 use Rattle.std.proofs.lemmas.Bool.{eq-eqb, le-leb, le-ltb}
 use Rattle.std.proofs.lemmas.List.{append-nil, append_assoc, reverse-append, reverse-reverse}
 use Rattle.ifc_base.specs.declared.value.Instance.{Instance}
@@ -17,9 +17,9 @@ use Rattle.audit_model.specs.History.{Ground, pairs_in, model_of, model_at, comm
 use Rattle.audit_model.specs.Machine.{MayFollow, Legal, Holds, deliver_reply, is_full, pairs_now}
 use Rattle.audit_model.specs.Drain.{caller_entry, drain_from, drain, unsettled, drain_after}
 use Rattle.audit_model.specs.ScriptLines.{free}
-use Rattle.audit_model.specs.Serial.{Done, done, ended, given_to, with_delivery, after_delivery, after_claim, rounds, and_then, publish_done, drain_done}
+use Rattle.audit_model.specs.Serial.{Done, done, ended, with_room, given_to, with_delivery, after_delivery, after_claim, rounds, and_then, publish_done, drain_done}
 use Rattle.audit_model.specs.Output.{entry_text, editor_text, editors, ends_phase, report_in, phase_text, with_entry, whole_phases, output}
-use Rattle.audit_model.specs.RunLaws.{HasRoomToDrain, SyncDrainsFile, DrainIsDone}
+use Rattle.audit_model.specs.RunLaws.{HasRoomToDrain, SyncDrainsFile, DrainIsDone, DrainEnds}
 use Rattle.audit_model.proofs.DrainLaws.{drain_follows, drain_of_file}
 use Rattle.audit_model.proofs.Tests.{Each, filter-length}
 
@@ -104,6 +104,52 @@ drains_so g h n r (suc m) (p ∷ ps) o le room f =
 pub drain_is_done : DrainIsDone
 drain_is_done g h k m l o room =
     drains_so g h (given h + 1) (revision h) (length (pairs_now g h)) (unsettled g h) o (filter-length _ (pairs_now g h)) room (legal_split g h (drain_after g h) (drain_follows g h k m l o).1)
+
+-- Rounds while there is room, by the pairs that are left to do.
+abbrev worked : Ground → ℕ → ℕ → List Pair → List StepRec → Done
+worked g n r [] h = with_room g 2 h free (done (idle_made h) free)
+worked g n r (p ∷ ps) h = with_room g 2 h free (worked g (n + 1) r ps (round_made n p r h))
+
+rounds_worked : (g : Ground) (h : List StepRec) (n r m : ℕ) (todo : List Pair) → out h ≡ [] → length todo ≤ m → AllMayFollow g h (drain_from n r todo) → rounds g 0 (suc m) free h ≡ worked g n r todo h
+rounds_worked g h n r m [] o le f =
+    let more : List StepRec → Done = rounds g 0 m free in
+    ap (λ (reply : Reply). with_room g 2 h free (after_claim g 0 reply h free more)) (sym f.0)
+rounds_worked g h n r zero (p ∷ ps) o le f = absurd (omega (arith, le))
+rounds_worked g h n r (suc m) (p ∷ ps) o le f =
+    let more : List StepRec → Done = rounds g 0 (suc m) free in
+    ap (λ (reply : Reply). with_room g 2 h free (after_claim g 0 reply h free more)) (sym f.0)
+    ∙ ap (λ (k : List StepRec). with_room g 2 h free (more k)) (delivery_is g (claim_made n p r h) n f.1.0.0 f.1.0.1 f.1.0.2)
+    ∙ ap (λ (d : Done). with_room g 2 h free d) (rounds_worked g (round_made n p r h) (n + 1) r m ps (out_round h n p r o) (omega (arith, le)) f.1.1)
+
+-- what was done ended before a call that would be answered Full, or leads to the history k
+abbrev EndsAt : Done → List StepRec → Type 0
+EndsAt d k = (d.full ≡ true) ⊎ (d ≡ done k free)
+
+idle_room : (g : Ground) (h : List StepRec) → is_full g (idle_made h) 1 ≡ is_full g h 2
+idle_room g h = ap (λ (n : ℕ). nat_lt g.limits.steps n) (omega arith)
+
+idle_ends : (g : Ground) (h : List StepRec) (r : ℕ) (full : Bool) → is_full g h 2 ≡ full → AllMayFollow g h (caller_entry Claim Idle ∷ caller_entry Publish (Report r) ∷ []) → EndsAt (and_then (cond full (ended h free) (done (idle_made h) free)) (publish_done g)) (caller_entry Publish (Report r) ∷ idle_made h)
+idle_ends g h r true e f = inl refl
+idle_ends g h r false e f =
+    inr (λ i. cond ((idle_room g h ∙ e) i) (ended (idle_made h) free) (done (caller_entry Publish (sym f.1.0 i) ∷ idle_made h) free))
+
+worked_ends : (g : Ground) (h : List StepRec) (n r : ℕ) (todo : List Pair) → AllMayFollow g h (drain_from n r todo) → EndsAt (and_then (worked g n r todo h) (publish_done g)) (reverse (drain_from n r todo) ++ h)
+worked_ends g h n r [] f = idle_ends g h r (is_full g h 2) refl f
+worked_ends g h n r (p ∷ ps) f =
+    let es : List StepRec = drain_from (n + 1) r ps in
+    let rest : EndsAt (and_then (worked g (n + 1) r ps (round_made n p r h)) (publish_done g)) (reverse es ++ round_made n p r h) = worked_ends g (round_made n p r h) (n + 1) r ps f.1.1 in
+    let turn : reverse (drain_from n r (p ∷ ps)) ++ h ≡ reverse es ++ round_made n p r h =
+    turned (caller_entry Claim (Claimed n p r)) (caller_entry (Deliver n) Used ∷ es) h ∙ turned (caller_entry (Deliver n) Used) es (claim_made n p r h) in
+    subst (λ (k : List StepRec). EndsAt (and_then (worked g n r (p ∷ ps) h) (publish_done g)) k) (sym turn)
+    (elim (is_full g h 2) as (λ b. EndsAt (and_then (cond b (ended h free) (worked g (n + 1) r ps (round_made n p r h))) (publish_done g)) (reverse es ++ round_made n p r h)) [ true ↦ inl refl | false ↦ rest ])
+
+pub drain_ends : DrainEnds
+drain_ends g h k m l o =
+    let f : AllMayFollow g h (drain_after g h) = legal_split g h (drain_after g h) (drain_follows g h k m l o).1 in
+    let same : rounds g 0 (suc (length (pairs_now g h))) free h ≡ worked g (given h + 1) (revision h) (unsettled g h) h =
+    rounds_worked g h (given h + 1) (revision h) (length (pairs_now g h)) (unsettled g h) o (filter-length _ (pairs_now g h)) f in
+    subst (λ (d : Done). EndsAt (and_then d (publish_done g)) (reverse (drain_after g h) ++ h)) (sym same)
+    (worked_ends g h (given h + 1) (revision h) (unsettled g h) f)
 
 -- A script of one `sync`.
 

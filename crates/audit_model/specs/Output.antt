@@ -1,6 +1,6 @@
 -- The text that a history has as the output of a run: phase by phase the lines of editor 1's entries in order, then those of editor 2
 -- and so on to editor 16, and then the text of the report that ends the phase.
-use Rattle.std.specs.Prelude.{ℕ, Bool, true, false, ◌&&◌, ◌==◌, List, [], ◌∷◌, ◌++◌, filter, flat_map, reverse, codes}
+use Rattle.std.specs.Prelude.{ℕ, Bool, true, false, ◌&&◌, ◌==◌, List, [], ◌∷◌, ◌++◌, filter, flat_map, reverse, codes, encode_utf8_all}
 use Rattle.std.specs.Fmt.{decimal}
 use Rattle.ifc_base.specs.declared.key.Role.{Role}
 use Rattle.ifc_base.specs.declared.key.Role.TheVariants as role
@@ -42,8 +42,8 @@ a_number n = codes " " ++ decimal n
 
 -- ` unknown NAME`, ` abstract NAME`, ` count FOUND WANTED` or ` derived PLACE`
 abbrev pub instance_fault_text : InstanceFault → List ℕ
-instance_fault_text (UnknownEntity name) = codes " unknown " ++ name
-instance_fault_text (AbstractEntity name) = codes " abstract " ++ name
+instance_fault_text (UnknownEntity name) = codes " unknown " ++ encode_utf8_all name
+instance_fault_text (AbstractEntity name) = codes " abstract " ++ encode_utf8_all name
 instance_fault_text (ParamCount found wanted) = codes " count" ++ a_number found ++ a_number wanted
 instance_fault_text (MisplacedDerived at) = codes " derived" ++ a_number at
 
@@ -52,7 +52,7 @@ abbrev pub edit_fault_text : Limits → EditFault → List ℕ
 edit_fault_text limits (Conflict id r) = codes " conflict" ++ an_id id ++ a_number r
 edit_fault_text limits (IdTaken id) = codes " taken" ++ an_id id
 edit_fault_text limits (NoInstance id) = codes " missing" ++ an_id id
-edit_fault_text limits (NoAttribute id attr) = codes " attribute" ++ an_id id ++ codes " " ++ attr
+edit_fault_text limits (NoAttribute id attr) = codes " attribute" ++ an_id id ++ codes " " ++ encode_utf8_all attr
 edit_fault_text limits (Schema id fault) = codes " schema" ++ an_id id ++ instance_fault_text fault
 edit_fault_text limits TooManyInstances = codes " instances" ++ a_number limits.instances
 

@@ -1,5 +1,5 @@
 -- Laws of the runs of scripts, each the contract of a function without a body.
-use Rattle.std.specs.Prelude.{◌≡◌, ◌+◌, ◌*◌, ◌≤◌, false, List, [], ◌∷◌, ◌++◌, length, reverse}
+use Rattle.std.specs.Prelude.{◌≡◌, ◌+◌, ◌*◌, ◌≤◌, ◌⊎◌, true, false, List, [], ◌∷◌, ◌++◌, length, reverse}
 use Rattle.audit_model.specs.declared.step.StepRec.{StepRec}
 use Rattle.audit_model.specs.declared.script.Phase.{Phase}
 use Rattle.audit_model.specs.Models.{IsModel}
@@ -11,6 +11,7 @@ use Rattle.audit_model.specs.Drain.{drain, unsettled, drain_after}
 use Rattle.audit_model.specs.Serial.{done, drain_done, serial, meets_full}
 use Rattle.audit_model.specs.ScriptLines.{free}
 use Rattle.audit_model.specs.Output.{output}
+use Rattle.audit_model.specs.Telling.{told, is_of_one_editor}
 
 -- one phase without lines
 abbrev pub only_sync : List Phase
@@ -34,3 +35,13 @@ DrainIsDone = (g : Ground) (h : List StepRec) → NumberedFrom 1 g.specs → IsM
 -- The history that phases make is legal, whatever their lines.
 abbrev pub SerialIsLegal : Type 0
 SerialIsLegal = (g : Ground) (phases : List Phase) → Legal g (reverse (serial g phases))
+
+-- After a legal history in which no claim is out the drain at the end of a phase is `drain_after`, whose last entry is the report, or
+-- it ended before a call that would be answered Full.
+abbrev pub DrainEnds : Type 0
+DrainEnds = (g : Ground) (h : List StepRec) → NumberedFrom 1 g.specs → IsModel g.first → Legal g h → out h ≡ [] →
+    ((drain_done g h).full ≡ true) ⊎ (drain_done g h ≡ done (reverse (drain_after g h) ++ h) free)
+
+-- The output of a legal history with the lines of one editor is what is told of it, entry by entry.
+abbrev pub OutputIsTold : Type 0
+OutputIsTold = (g : Ground) (h : List StepRec) → Legal g h → is_of_one_editor h ≡ true → output g (reverse h) ≡ (told g h).whole

@@ -28,7 +28,7 @@ pub use laws::{
 pub use order::in_order;
 pub use report::{Failing, Failings, ReportText, Tally, Texts};
 pub use restriction::Restriction;
-pub use run_laws::{drain_is_done, serial_is_legal, sync_drains_file};
+pub use run_laws::{drain_ends, drain_is_done, output_is_told, serial_is_legal, sync_drains_file};
 pub use script::{Act, Phase, Phases, ScriptLine, ScriptLines};
 pub use specification::{
     Cardinality, Occurs, Requirement, Requirements, Specification, Specifications,

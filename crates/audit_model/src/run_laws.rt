@@ -1,5 +1,5 @@
 //! Laws of the runs of scripts. Each function does nothing: its contract is the law.
-ghost use Rattle.audit_model.specs.RunLaws.{DrainIsDone, SerialIsLegal, SyncDrainsFile};
+ghost use Rattle.audit_model.specs.RunLaws.{DrainEnds, DrainIsDone, OutputIsTold, SerialIsLegal, SyncDrainsFile};
 
 /// After a history in which no claim is out, the drain at the end of a phase is the only legal one,
 /// where the limit of steps has room for it.
@@ -16,4 +16,15 @@ pub fn sync_drains_file()
 /// The history that the phases of a script make is legal.
 pub fn serial_is_legal()
     ensures { SerialIsLegal }
+{}
+
+/// After a history in which no claim is out, the drain at the end of a phase ends with the report, or
+/// before a call that would be answered `Full`.
+pub fn drain_ends()
+    ensures { DrainEnds }
+{}
+
+/// The output of a history with the lines of one editor is what is told of it entry by entry.
+pub fn output_is_told()
+    ensures { OutputIsTold }
 {}

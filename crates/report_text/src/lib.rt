@@ -10,5 +10,5 @@ mod lines;
 mod passing;
 
 pub use decimal::push_decimal;
-pub use lines::render_report;
+pub use lines::{push_text, render_report};
 pub use passing::passes;

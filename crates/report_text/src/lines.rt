@@ -120,7 +120,8 @@ fn verdict_word(passed: bool) -> &'static str
     if passed { "pass" } else { "fail" }
 }
 
-fn push_text(out: &mut Vec<u8>, text: &str) -> Result<(), Memory>
+/// Appends the text. `O(n)` in its length.
+pub fn push_text(out: &mut Vec<u8>, text: &str) -> Result<(), Memory>
     ensures { OnOk result (out.new.items ≡ out.old.items ++ text.now) }
 {
     out.extend_from_slice(text.as_bytes())?;

@@ -75,8 +75,8 @@ less_sure was mid is at n first second more sure =
     second more (first (n + more) (let shift : at + (n + more) ≡ at + n + more = omega arith in rw shift sure))
 
 -- and of the rest of a piece, of whose front so many bytes were taken
-pub rest_sure : (was is : ℕ → Type 0) (bytes : List ℕ) (at : ℕ) → at ≤ length bytes → ((more : ℕ) → was (at + more) → is more) → was (length bytes) → is (length (take (length bytes - at) (drop at bytes)))
-rest_sure was is bytes at within left sure =
+pub rest_sure : (was is : ℕ → Type 0) (bytes : List ℕ) (at : ℕ) → at ≤ length bytes → (more : ℕ) → ((more : ℕ) → was (at + more) → is more) → was (length bytes + more) → is (length (take (length bytes - at) (drop at bytes)) + more)
+rest_sure was is bytes at within more left sure =
     let rest : length (take (length bytes - at) (drop at bytes)) ≡ length bytes - at = grind (arith, common_steps) in
-    let whole : at + (length bytes - at) ≡ length bytes = omega (arith, within) in
-    rw rest (left (length bytes - at) (rw whole sure))
+    let whole : at + ((length bytes - at) + more) ≡ length bytes + more = omega (arith, within) in
+    rw rest (left ((length bytes - at) + more) (rw whole sure))

@@ -97,7 +97,7 @@ impl Sink for MemSink {
             (λ _. Some self.new.written ≡ Some self.old.written) }
         ensures cause { HasCause self.old.faults self.new.faults result }
         ensures calm { OnOk result (self.new.faults ≡ self.old.faults) }
-        ensures sure { IsSure self.old (length bytes.now) → IsOk result }
+        ensures sure { (more : ℕ) → IsSure self.old (length bytes.now + more) → IsOk result }
         ensures left { IfOk result (λ n. (more : ℕ) → IsSure self.old (n + more) → IsSure self.new more) }
 
         // Of this sink is said besides which call fails, how much it takes, and that it counts the calls.

@@ -68,6 +68,6 @@ pub trait Sink {
         ensures cause { HasCause (faults self.old) (faults self.new) result }
         ensures calm { OnOk result (faults self.new ≡ faults self.old) }
 
-        ensures sure { sure self.old (length bytes.now) → IsOk result }
+        ensures sure { (more : ℕ) → sure self.old (length bytes.now + more) → IsOk result }
         ensures left { IfOk result (λ n. (more : ℕ) → sure self.old (n + more) → sure self.new more) };
 }

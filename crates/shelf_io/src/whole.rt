@@ -90,7 +90,7 @@ pub fn write_all<K: Sink>(sink: &mut K, bytes: &[u8]) -> Result<(), Failed>
     ensures cause { HasCause (K.faults sink.old) (K.faults sink.new) result }
     ensures calm { OnOk result (K.faults sink.new ≡ K.faults sink.old) }
 
-    ensures sure { K.sure sink.old (length bytes.now) → IsOk result }
+    ensures sure { (more : ℕ) → K.sure sink.old (length bytes.now + more) → IsOk result }
     ensures left { OnOk result ((more : ℕ)
         → K.sure sink.old (length bytes.now + more) → K.sure sink.new more) }
 {

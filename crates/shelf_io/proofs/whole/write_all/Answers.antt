@@ -12,7 +12,7 @@ loop-at-preserved g c = record {
 }
 
 pub returns-in_err-at-clause-sure : goal.returns-in_err-at-clause-sure
-returns-in_err-at-clause-sure g c sure =
-    let went = c.in_err-at.ensures.sure (rest_sure (g.K.Sink.sure c.args.sink.now) (g.K.Sink.sure c.loop-at.sink) c.args.bytes.now c.loop-at.at
-    c.loop-at.invariant.within c.loop-at.invariant.left sure) in
+returns-in_err-at-clause-sure g c more sure =
+    let went = c.in_err-at.ensures.sure more (rest_sure (g.K.Sink.sure c.args.sink.now) (g.K.Sink.sure c.loop-at.sink) c.args.bytes.now c.loop-at.at
+    c.loop-at.invariant.within more c.loop-at.invariant.left sure) in
     absurd (cc)

@@ -1,0 +1,10 @@
+pub mod Growing
+pub mod Turning
+pub mod Acting
+pub mod Quieting
+pub mod Stepping
+pub mod Phasing
+pub mod Draining
+pub mod Ending
+pub mod Counting
+pub mod Finishing

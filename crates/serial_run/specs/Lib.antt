@@ -1,0 +1,9 @@
+pub mod Growth
+pub mod Editing
+pub mod Course
+pub mod Turns
+pub mod Lines
+pub mod Steps
+pub mod Running
+pub mod Runs
+pub mod Quiet

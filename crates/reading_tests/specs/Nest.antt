@@ -29,12 +29,12 @@ abbrev pub after_slash : Text → Text → Read Cause (Bool × Unit {0})
 after_slash start [] = refuse BadToken start
 after_slash start (c ∷ t) = if c == 42 then (comment false start t >>= λ x. Ok ((true, tt), x.1)) else refuse BadToken start
 
--- one blank or comment, if one comes next
+-- a run of blanks, or one comment, if they come next
 unfoldable pub gap_turn : Unit {0} → Text → Read Cause (Bool × Unit {0})
 gap_turn s [] = Ok ((false, tt), [])
 gap_turn s (c ∷ t) =
     if c == 47 then after_slash (c ∷ t) t
-    else if is_blank c then Ok ((true, tt), t)
+    else if is_blank c then Ok ((true, tt), (run is_blank t).1)
     else Ok ((false, tt), c ∷ t)
 
 unfoldable pub gap : Text → Read Cause (Unit {0})

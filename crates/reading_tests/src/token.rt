@@ -44,17 +44,19 @@ fn number<'a>(cursor: &mut Cursor<'a>, at: &'a [u8], so_far: u32) -> Result<u32,
     requires { so_far ≤ 999999999 }
     ensures { Gives (λ n. n) result cursor.new (spec.number (codes_of at.now) so_far (run is_digit cursor.old)) }
 {
+    let mut here = Cursor::new(cursor.rest());
     let mut found = u64::from(so_far);
-    while let Some(code) = cursor.peek() {
+    while let Some(code) = here.peek() {
         let Some(digit) = digit(code) else {
-            return Ok(found as u32);
+            break;
         };
-        let _ = cursor.next();
+        let _ = here.next();
         found = 10 * found + u64::from(digit);
         if found > MOST {
             return Err(Stop::Refused(Cause::BadNumber, at));
         }
     }
+    *cursor = here;
     Ok(found as u32)
 }
 

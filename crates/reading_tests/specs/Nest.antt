@@ -1,5 +1,5 @@
 -- Reading trees, with the first refusal.
-use Rattle.std.specs.Prelude.{ℕ, zero, suc, ◌+◌, ◌*◌, ◌-◌, Bool, true, false, ◌&&◌, ◌||◌, List, [], ◌∷◌, ◌++◌, Option, Some, None, Result, Ok, Err, ◌==◌, nat_le, if◌then◌else◌, option_map}
+use Rattle.std.specs.Prelude.{ℕ, zero, suc, ◌+◌, ◌*◌, ◌-◌, Bool, true, false, not, ◌&&◌, ◌||◌, List, [], ◌∷◌, ◌++◌, Option, Some, None, Result, Ok, Err, ◌==◌, nat_le, if◌then◌else◌, option_map}
 use Rattle.std.specs.Char.{is_ascii_digit}
 use Rattle.std.specs.Borrow.{Bor}
 use Rattle.reading.specs.declared.fault.Fault.{Fault}
@@ -19,6 +19,9 @@ use Rattle.reading_tests.specs.declared.token.Lexed as code
 
 unfoldable pub is_blank : ℕ → Bool
 is_blank c = c == 32 || c == 9 || c == 10 || c == 13
+
+abbrev pub is_no_star : ℕ → Bool
+is_no_star c = not (c == 42)
 
 -- what follows the comment that began at `start`; the flag says that a star came before
 unfoldable pub comment : Bool → Text → Text → Read Cause (Unit {0})

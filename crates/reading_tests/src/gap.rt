@@ -20,8 +20,20 @@ impl Class for Blank {
     }
 }
 
+/// All but a star.
+struct NoStar;
+
+impl Class for NoStar {
+    ghost has_code = { λ _ c. spec.is_no_star c };
+
+    fn has(&self, code: Code) -> bool {
+        !code.is('*')
+    }
+}
+
 /// Passes the rest of the comment that began at `start`, whatever its bytes are.
-#[tactic(auto, unfolding(crate::specs::Nest::comment))]
+#[tactic(auto, using(crate::proofs::Comments::comment_laws), unfolding(crate::specs::Nest::comment))]
+#[inline(never)]
 fn comment<'a>(cursor: &mut Cursor<'a>, start: &'a [u8]) -> Result<(), Stop<'a, Cause>>
     ensures { Gives (λ _. tt) result cursor.new (spec.comment false (codes_of start.now) cursor.old) }
 {
@@ -33,12 +45,16 @@ fn comment<'a>(cursor: &mut Cursor<'a>, start: &'a [u8]) -> Result<(), Stop<'a, 
             return Ok(());
         }
         star = code.is('*');
+        if !star {
+            here.pass_run(&NoStar);
+        }
     }
     Err(Stop::Refused(Cause::Unclosed, start))
 }
 
 /// Passes blanks or one comment, if they come next.
 #[tactic(auto, using(reading::proofs::RunLaws::pass_laws), unfolding(crate::specs::Nest::gap_turn))]
+#[inline(always)]
 fn blank_or_comment<'a>(cursor: &mut Cursor<'a>) -> Result<bool, Stop<'a, Cause>>
     ensures { Gives (λ more. (more, tt)) result cursor.new (spec.gap_turn tt cursor.old) }
 {
@@ -66,6 +82,7 @@ fn blank_or_comment<'a>(cursor: &mut Cursor<'a>) -> Result<bool, Stop<'a, Cause>
 
 /// Passes all blanks and comments that come next.
 #[tactic(auto, using(reading::proofs::Each::each_laws), unfolding(crate::specs::Nest::gap))]
+#[inline(always)]
 pub(crate) fn gap<'a>(cursor: &mut Cursor<'a>) -> Result<(), Stop<'a, Cause>>
     ensures { Gives (λ _. tt) result cursor.new (spec.gap cursor.old) }
 {

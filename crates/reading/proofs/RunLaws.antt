@@ -1,5 +1,5 @@
 -- Each text has one longest run of a class at its front.
-use Rattle.std.proofs.Common.{◌≡◌, ℕ, ◌≤◌, Bool, true, false, [], ◌∷◌, ◌++◌, length, Some, None, refl, ap, ◌∙◌, inl, inr, ◌⊎◌, arith, length-append}
+use Rattle.std.proofs.Common.{◌≡◌, ℕ, ◌≤◌, ◌<◌, Bool, true, false, List, [], ◌∷◌, ◌++◌, length, drop, Some, None, refl, ap, ◌∙◌, inl, inr, ◌⊎◌, arith, length-append}
 use Rattle.std.specs.Prelude.{◌&&◌}
 use Rattle.std.specs.List.{list_all}
 use Rattle.reading.specs.Reading.{Text, first}
@@ -41,6 +41,25 @@ begins_first class (d ∷ t) c e = let same : d ≡ c = cc in ap class same
 pub begins_end : (class : ℕ → Bool) (t : Text) → first t ≡ None → begins class t ≡ false
 begins_end class [] e = refl
 begins_end class (d ∷ t) e = absurd cc
+
+-- the same, of what passes a run
+pub past_more : (class : ℕ → Bool) (c : ℕ) (t : Text) → class c ≡ true → (run class (c ∷ t)).1 ≡ (run class t).1
+past_more class c t is = ap (λ (r : List ℕ × Text). r.1) (run_more class c t is)
+
+pub past_stop : (class : ℕ → Bool) (t : Text) → begins class t ≡ false → (run class t).1 ≡ t
+past_stop class t not = ap (λ (r : List ℕ × Text). r.1) (run_stop class t not)
+
+pub past_one : (class : ℕ → Bool) (t : Text) → begins class t ≡ true → (run class t).1 ≡ (run class (drop 1 t)).1
+past_one class [] is = absurd cc
+past_one class (c ∷ t) is = past_more class c t is
+
+pub one_less : (class : ℕ → Bool) (t : Text) → begins class t ≡ true → length (drop 1 t) < length t
+one_less class [] is = absurd cc
+one_less class (c ∷ t) is = omega arith
+
+pub ruleset while_laws = (past_one, past_stop, one_less)
+
+pub ruleset pass_laws = (past_more, past_stop, begins_first, begins_end)
 
 pub ruleset run_laws = (run_more, run_stop, begins_first, begins_end)
 

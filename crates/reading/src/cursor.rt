@@ -1,10 +1,12 @@
 //! What is still to read, over bytes.
 
-ghost use Rattle.std.specs.Prelude.{◌≡◌, ◌∷◌, [], MatchOption};
+ghost use Rattle.std.specs.Prelude.{◌≡◌, ◌∷◌, [], MatchOption, drop, if◌then◌else◌};
 ghost use Rattle.std.specs.Option.{option_map};
 ghost use Rattle.reading.specs.Codes.{code_of, codes_of};
 ghost use Rattle.reading.specs.Reading.{first, turns};
+ghost use Rattle.reading.specs.Runs.{begins, run};
 
+use crate::class::Class;
 use crate::code::{Code, front};
 use std::marker::Model;
 
@@ -51,13 +53,55 @@ impl<'a> Cursor<'a> {
             ∷ self.new) }
     {
         let bytes = self.bytes;
-        if !bytes.is_empty() && bytes[0] < 0x80 {
-            self.bytes = &bytes[1..];
-            return Some(Code::Char(bytes[0] as char));
+        if !bytes.is_empty() {
+            let byte = bytes[0];
+            if byte < 0x80 {
+                self.bytes = &bytes[1..];
+                return Some(Code::Char(byte as char));
+            }
         }
         let code = front(bytes)?;
         self.bytes = &bytes[code.width()..];
         Some(code)
+    }
+
+    /// Passes what stands next, if it is of the class; whether it was. `O(1)`.
+    #[inline(always)]
+    #[tactic(auto, using(crate::proofs::Codes::next_laws))]
+    fn pass_one<C: Class>(&mut self, class: &C) -> bool
+        ensures is { result ≡ begins (C.has_code class.now) self.old }
+        ensures left { self.new ≡ (if result then drop 1 self.old else self.old) }
+    {
+        let bytes = self.bytes;
+        if !bytes.is_empty() {
+            let byte = bytes[0];
+            if byte < 0x80 {
+                if !class.has(Code::Char(byte as char)) {
+                    return false;
+                }
+                self.bytes = &bytes[1..];
+                return true;
+            }
+        }
+        let Some(code) = front(bytes) else {
+            return false;
+        };
+        if !class.has(code) {
+            return false;
+        }
+        self.bytes = &bytes[code.width()..];
+        true
+    }
+
+    /// Passes the longest run of the class that comes next; the cursor stands behind it. `O(n)` in the run's bytes, in registers.
+    #[inline]
+    #[tactic(auto, using(crate::proofs::RunLaws::while_laws))]
+    pub fn pass_run<C: Class>(&mut self, class: &C)
+        ensures { self.new ≡ (run (C.has_code class.now) self.old).1 }
+    {
+        let mut here = Cursor { bytes: self.bytes };
+        while here.pass_one(class) {}
+        self.bytes = here.bytes;
     }
 
     /// What stands next; the cursor stays. `O(1)`.

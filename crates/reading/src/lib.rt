@@ -2,6 +2,7 @@
 #![tactic(auto)]
 
 mod char_cursor;
+mod class;
 mod code;
 mod cursor;
 mod fault;
@@ -9,6 +10,7 @@ mod laws;
 mod stop;
 
 pub use char_cursor::CharCursor;
+pub use class::Class;
 pub use code::Code;
 pub use cursor::Cursor;
 pub use fault::{Fault, answer, line_of, place_of, refusal};

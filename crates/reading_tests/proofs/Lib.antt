@@ -6,3 +6,4 @@ pub mod TreeLaws
 pub mod TreeComplete
 pub mod ReadLaws
 pub mod LetterLaws
+pub mod Comments

@@ -1,5 +1,5 @@
 -- Reading trees, with the first refusal.
-use Rattle.std.specs.Prelude.{ℕ, zero, suc, ◌+◌, ◌*◌, ◌-◌, Bool, true, false, ◌&&◌, ◌||◌, List, [], ◌∷◌, ◌++◌, Option, Some, None, Result, Ok, Err, ◌==◌, nat_le, if◌then◌else◌, option_map}
+use Rattle.std.specs.Prelude.{ℕ, zero, suc, ◌+◌, ◌*◌, ◌-◌, Bool, true, false, not, ◌&&◌, ◌||◌, List, [], ◌∷◌, ◌++◌, Option, Some, None, Result, Ok, Err, ◌==◌, nat_le, if◌then◌else◌, option_map}
 use Rattle.std.specs.Char.{is_ascii_digit}
 use Rattle.std.specs.Borrow.{Bor}
 use Rattle.reading.specs.declared.fault.Fault.{Fault}
@@ -20,6 +20,9 @@ use Rattle.reading_tests.specs.declared.token.Lexed as code
 unfoldable pub is_blank : ℕ → Bool
 is_blank c = c == 32 || c == 9 || c == 10 || c == 13
 
+abbrev pub is_no_star : ℕ → Bool
+is_no_star c = not (c == 42)
+
 -- what follows the comment that began at `start`; the flag says that a star came before
 unfoldable pub comment : Bool → Text → Text → Read Cause (Unit {0})
 comment star start [] = refuse Unclosed start
@@ -29,12 +32,12 @@ abbrev pub after_slash : Text → Text → Read Cause (Bool × Unit {0})
 after_slash start [] = refuse BadToken start
 after_slash start (c ∷ t) = if c == 42 then (comment false start t >>= λ x. Ok ((true, tt), x.1)) else refuse BadToken start
 
--- one blank or comment, if one comes next
+-- a run of blanks, or one comment, if they come next
 unfoldable pub gap_turn : Unit {0} → Text → Read Cause (Bool × Unit {0})
 gap_turn s [] = Ok ((false, tt), [])
 gap_turn s (c ∷ t) =
     if c == 47 then after_slash (c ∷ t) t
-    else if is_blank c then Ok ((true, tt), t)
+    else if is_blank c then Ok ((true, tt), (run is_blank t).1)
     else Ok ((false, tt), c ∷ t)
 
 unfoldable pub gap : Text → Read Cause (Unit {0})

@@ -6,32 +6,55 @@ ghost use Rattle.reading.specs.Reading.{Gives};
 ghost use Rattle.reading_tests.specs.Nest as spec;
 
 use crate::tree::Cause;
-use reading::{Code, Cursor, Stop};
+use reading::{Class, Code, Cursor, Stop};
 
-#[tactic(auto, unfolding(crate::specs::Nest::is_blank))]
-fn is_blank(code: Code) -> bool
-    ensures { result ≡ spec.is_blank (code_of code) }
-{
-    code.is(' ') || code.is('\t') || code.is('\n') || code.is('\r')
+/// Space, tab, line feed and carriage return.
+struct Blank;
+
+impl Class for Blank {
+    ghost has_code = { λ _ c. spec.is_blank c };
+
+    #[tactic(auto, unfolding(crate::specs::Nest::is_blank))]
+    fn has(&self, code: Code) -> bool {
+        code.is(' ') || code.is('\t') || code.is('\n') || code.is('\r')
+    }
+}
+
+/// All but a star.
+struct NoStar;
+
+impl Class for NoStar {
+    ghost has_code = { λ _ c. spec.is_no_star c };
+
+    fn has(&self, code: Code) -> bool {
+        !code.is('*')
+    }
 }
 
 /// Passes the rest of the comment that began at `start`, whatever its bytes are.
-#[tactic(auto, unfolding(crate::specs::Nest::comment))]
+#[tactic(auto, using(crate::proofs::Comments::comment_laws), unfolding(crate::specs::Nest::comment))]
+#[inline(never)]
 fn comment<'a>(cursor: &mut Cursor<'a>, start: &'a [u8]) -> Result<(), Stop<'a, Cause>>
     ensures { Gives (λ _. tt) result cursor.new (spec.comment false (codes_of start.now) cursor.old) }
 {
+    let mut here = Cursor::new(cursor.rest());
     let mut star = false;
-    while let Some(code) = cursor.next() {
+    while let Some(code) = here.next() {
         if star && code.is('/') {
+            *cursor = here;
             return Ok(());
         }
         star = code.is('*');
+        if !star {
+            here.pass_run(&NoStar);
+        }
     }
     Err(Stop::Refused(Cause::Unclosed, start))
 }
 
-/// Passes one blank or comment, if one comes next.
-#[tactic(auto, unfolding(crate::specs::Nest::gap_turn))]
+/// Passes blanks or one comment, if they come next.
+#[tactic(auto, using(reading::proofs::RunLaws::pass_laws), unfolding(crate::specs::Nest::gap_turn))]
+#[inline(always)]
 fn blank_or_comment<'a>(cursor: &mut Cursor<'a>) -> Result<bool, Stop<'a, Cause>>
     ensures { Gives (λ more. (more, tt)) result cursor.new (spec.gap_turn tt cursor.old) }
 {
@@ -50,8 +73,8 @@ fn blank_or_comment<'a>(cursor: &mut Cursor<'a>) -> Result<bool, Stop<'a, Cause>
         comment(cursor, at)?;
         return Ok(true);
     }
-    if is_blank(code) {
-        let _ = cursor.next();
+    if Blank.has(code) {
+        cursor.pass_run(&Blank);
         return Ok(true);
     }
     Ok(false)
@@ -59,6 +82,7 @@ fn blank_or_comment<'a>(cursor: &mut Cursor<'a>) -> Result<bool, Stop<'a, Cause>
 
 /// Passes all blanks and comments that come next.
 #[tactic(auto, using(reading::proofs::Each::each_laws), unfolding(crate::specs::Nest::gap))]
+#[inline(always)]
 pub(crate) fn gap<'a>(cursor: &mut Cursor<'a>) -> Result<(), Stop<'a, Cause>>
     ensures { Gives (λ _. tt) result cursor.new (spec.gap cursor.old) }
 {

@@ -33,6 +33,7 @@ fn misplaced<'a>(outer: Option<&'a [u8]>, token: Token, at: &'a [u8]) -> Stop<'a
 /// The tree that begins with the token, in which parentheses nest no deeper than `depth`.
 #[tactic(auto, using(crate::proofs::Trees::tree_laws), unfolding(crate::specs::Nest::list, crate::specs::Nest::list_turn))]
 #[cycle(read)]
+#[inline(always)]
 fn tree<'a>(
     alloc: Global,
     depth: usize,

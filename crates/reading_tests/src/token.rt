@@ -31,11 +31,15 @@ pub(crate) struct Lexed<'a> {
 const MOST: u64 = 999_999_999;
 
 /// The digit, as a number.
+#[inline(always)]
 fn digit(code: Code) -> Option<u32>
     ensures value { result ≡ spec.digit (code_of code) }
     ensures small { IfSome result (λ n. n < 10) }
 {
-    code.char()?.to_digit(10)
+    match code.char()? {
+        found @ '0'..='9' => Some(found as u32 - '0' as u32),
+        _ => None,
+    }
 }
 
 /// The number whose digits so far are `so_far`.
@@ -44,21 +48,24 @@ fn number<'a>(cursor: &mut Cursor<'a>, at: &'a [u8], so_far: u32) -> Result<u32,
     requires { so_far ≤ 999999999 }
     ensures { Gives (λ n. n) result cursor.new (spec.number (codes_of at.now) so_far (run is_digit cursor.old)) }
 {
+    let mut here = Cursor::new(cursor.rest());
     let mut found = u64::from(so_far);
-    while let Some(code) = cursor.peek() {
+    while let Some(code) = here.peek() {
         let Some(digit) = digit(code) else {
-            return Ok(found as u32);
+            break;
         };
-        let _ = cursor.next();
+        let _ = here.next();
         found = 10 * found + u64::from(digit);
         if found > MOST {
             return Err(Stop::Refused(Cause::BadNumber, at));
         }
     }
+    *cursor = here;
     Ok(found as u32)
 }
 
 /// The token that begins at `at` with this character, behind which the cursor stands.
+#[inline(always)]
 #[tactic(auto, unfolding(crate::specs::Nest::token_of))]
 fn token_of<'a>(cursor: &mut Cursor<'a>, at: &'a [u8], code: Code) -> Result<Token, Stop<'a, Cause>>
     ensures { Gives (λ token. token) result cursor.new (spec.token_of (codes_of at.now) (code_of code) cursor.old) }
@@ -77,6 +84,7 @@ fn token_of<'a>(cursor: &mut Cursor<'a>, at: &'a [u8], code: Code) -> Result<Tok
     }
 }
 
+#[inline(always)]
 #[tactic(auto, unfolding(crate::specs::Nest::token_here))]
 fn token_here<'a>(cursor: &mut Cursor<'a>, at: &'a [u8]) -> Result<Token, Stop<'a, Cause>>
     requires { codes_of at.now ≡ cursor.old }
@@ -89,6 +97,7 @@ fn token_here<'a>(cursor: &mut Cursor<'a>, at: &'a [u8]) -> Result<Token, Stop<'
 }
 
 /// The next token.
+#[inline(always)]
 #[tactic(auto, unfolding(crate::specs::Nest::token))]
 pub(crate) fn next_token<'a>(cursor: &mut Cursor<'a>) -> Result<Lexed<'a>, Stop<'a, Cause>>
     ensures { Gives spec.lexed_view result cursor.new (spec.token cursor.old) }

@@ -2,12 +2,14 @@
 
 use sqlite_items::Items;
 
+/// A number, or a list of trees in parentheses.
 #[derive(Drop)]
 pub enum Tree {
     Number(u32),
     List(Items<Tree>),
 }
 
+/// Why the text isn't read.
 #[derive(Clone, Copy, Debug, PartialEq, Eq)]
 pub enum Cause {
     /// A byte outside comments that belongs to no character.

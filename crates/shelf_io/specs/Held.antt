@@ -1,5 +1,5 @@
 -- What the shelf in memory holds, and which of its reads fail.
-use Rattle.std.specs.Prelude.{◌≡◌, ℕ, ◌<◌, ◌==◌, Bool, true, false, not, List, [], ◌∷◌, length, take, map, Option, Some, None, All, if◌then◌else◌, slice_index_or}
+use Rattle.std.specs.Prelude.{◌≡◌, ℕ, ◌-◌, ◌<◌, ◌==◌, Bool, true, false, not, List, [], ◌∷◌, length, min, take, map, Option, Some, None, All, if◌then◌else◌, slice_index_or}
 use Rattle.std.specs.List.{list_any}
 use Rattle.std.specs.Option.{option_map_or}
 use Rattle.std.specs.Str.{bytes_eq}
@@ -38,6 +38,10 @@ pub record IsFirst (name : List ℕ) (files : List ShelfFile) (at : ℕ) : Type 
   pub within : at < length files
   pub before : list_any (has_name name) (take at files) ≡ false
   pub here : (d : ShelfFile) → has_name name (slice_index_or files at d) ≡ true
+
+-- how many bytes a read from this place gives into a buffer with this room: as many as stand there and fit
+abbrev pub readable : List ℕ → ℕ → ℕ → ℕ
+readable bytes from room = min (length bytes - from) room
 
 -- the file after one more read
 abbrev pub read_once : ShelfFile → ShelfFile

@@ -3,7 +3,7 @@ ghost use Rattle.std.specs.List.{list_any};
 ghost use Rattle.std.specs.Result.{is_ok};
 ghost use Rattle.std.specs.Str.{chars};
 ghost use Rattle.shelf_io.specs.Pieces.{file_named, IsPiece};
-ghost use Rattle.shelf_io.specs.Held.{entry_of, has_name, IsFirst, read_once, read_first, fails_next, reads_well};
+ghost use Rattle.shelf_io.specs.Held.{entry_of, has_name, IsFirst, readable, read_once, read_first, fails_next, reads_well};
 
 use crate::mem_sink::is_listed;
 use crate::traits::{Failed, Shelf};
@@ -61,6 +61,7 @@ fn place(files: &[ShelfFile], name: &str) -> Option<usize>
 fn copy_out(bytes: &[u8], from: u64, into: &mut [u8]) -> usize
     ensures bound { result ≤ length into.old }
     ensures piece { IsPiece bytes.now from result into.new }
+    ensures full { result ≡ readable bytes.now from (length into.old) }
 {
     let start = bytes.len().min(from as usize);
     let rest = &bytes[start..];
@@ -75,6 +76,7 @@ fn read_file(file: &mut ShelfFile, from: u64, into: &mut [u8]) -> Result<usize, 
     ensures answer { is_ok result ≡ not (fails_next file.old) }
     ensures bound { IfOk result (λ n. n ≤ length into.new) }
     ensures piece { IfOk result (λ n. IsPiece file.old.bytes from n into.new) }
+    ensures full { IfOk result (λ n. n ≡ readable file.old.bytes from (length into.old)) }
 {
     file.reads = file.reads.saturating_add(1);
     if is_listed(file.failing.as_slice(), file.reads) {
@@ -95,6 +97,8 @@ fn read_named(
     ensures bound { IfOk result (λ n. n ≤ length into.new) }
     ensures bytes { IfOk result (λ n. IfSome (file_named (chars name.now) (map entry_of files.old))
         (λ bytes. IsPiece bytes from n into.new)) }
+    ensures full { IfOk result (λ n. IfSome (file_named (chars name.now) (map entry_of files.old))
+        (λ bytes. n ≡ readable bytes from (length into.old))) }
 {
     match place(files, name) {
         Some(at) => read_file(&mut files[at], from, into),
@@ -104,10 +108,10 @@ fn read_named(
 
 /// A read costs `O(f + n)` for `f` files and `n` bytes read.
 impl Shelf for MemShelf {
-    ghost use Rattle.std.specs.Prelude.{Some, IsErr, OnOk, IfSome};
-    ghost use Rattle.shelf_io.specs.Causes.{HasCause};
+    ghost use Rattle.std.specs.Prelude.{Some, IsErr, OnOk, OnErr, IfSome};
+    ghost use Rattle.shelf_io.specs.Causes.{HasCause, next_count};
     ghost use Rattle.shelf_io.specs.Pieces.{file_told, IsMissing};
-    ghost use Rattle.shelf_io.specs.Held.{shelf_files, entries, shelf_faults, reads_well, read_first, IsSteady};
+    ghost use Rattle.shelf_io.specs.Held.{shelf_files, entries, shelf_faults, reads_well, read_first, readable, IsSteady};
 
     ghost held = { λ s. Some (entries s) };
 
@@ -127,9 +131,13 @@ impl Shelf for MemShelf {
         ensures sure { IsSteady self.old → IsErr result
             → IsMissing (Some (entries self.old)) (chars name.now) }
 
-        // Of this shelf is said besides which read fails, and that it counts the reads.
+        // Of this shelf is said besides which read fails, that it gives as much as there is room for, and
+        // that it counts the reads, and the faults one by one.
         ensures answer { is_ok result ≡ reads_well (chars name.now) (shelf_files self.old) }
         ensures counted { shelf_files self.new ≡ read_first (chars name.now) (shelf_files self.old) }
+        ensures full { IfOk result (λ n. IfSome (file_named (chars name.now) (entries self.old))
+            (λ bytes. n ≡ readable bytes from (length into.old))) }
+        ensures once { OnErr result (shelf_faults self.new ≡ next_count (shelf_faults self.old)) }
     {
         let answer = read_named(self.files.as_mut_slice(), name, from, into);
         if answer.is_err() {

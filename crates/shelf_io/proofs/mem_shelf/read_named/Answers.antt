@@ -20,6 +20,13 @@ returns-in-Some-clause-bytes c =
       first_at (chars c.args.name.now) c.args.files.now c.in-Some.at c.index-files-at.result c.in-Some.ensures,
     ) c.read_file.ensures.piece
 
+pub returns-in-Some-clause-full : goal.returns-in-Some-clause-full
+returns-in-Some-clause-full c =
+    rw (
+      told_of_first (chars c.args.name.now) c.args.files.now,
+      first_at (chars c.args.name.now) c.args.files.now c.in-Some.at c.index-files-at.result c.in-Some.ensures,
+    ) c.read_file.ensures.full
+
 pub returns-in-None-clause-counted : goal.returns-in-None-clause-counted
 returns-in-None-clause-counted c = sym (not_found (chars c.args.name.now) c.args.files.now c.in-None.ensures).1
 

@@ -3,7 +3,7 @@ use Rattle.std.specs.Prelude.{◌≡◌, ℕ, ◌<◌, ◌≤◌, ◌⊎◌, Lis
 use Rattle.audit_model.specs.declared.step.Call.{Call}
 use Rattle.audit_model.specs.declared.step.Call.TheVariants as call
 use Rattle.audit_model.specs.declared.step.Reply.{Reply}
-use Rattle.audit_model.specs.declared.step.Reply.TheVariants.{Report}
+use Rattle.audit_model.specs.declared.step.Reply.TheVariants.{Back, Report}
 use Rattle.audit_model.specs.declared.step.StepRec.{StepRec}
 use Rattle.audit_model.specs.Report.{audit_text}
 use Rattle.audit_model.specs.History.{Ground, model_at, revision}
@@ -11,6 +11,7 @@ use Rattle.audit_model.specs.Machine.{Legal}
 use Rattle.audit_run.specs.declared.calls.Act.{Act}
 use Rattle.audit_run.specs.declared.calls.Act.TheVariants as act
 use Rattle.audit_run.specs.declared.calls.Asked.{Asked}
+use Rattle.audit_run.specs.declared.hands.Taken.{Taken}
 use Rattle.audit_core.specs.Cores.{CoreView}
 use Rattle.audit_run.specs.Holding.{HandsView, AreTaken, ArePast}
 
@@ -69,14 +70,6 @@ pub record IsPlay (old new : CoreView) (hands : HandsView) (calls : List Asked) 
   pub reports_are : reports new.ground new.history ≡ reports old.ground old.history ++ told
   pub holding : IsHolding new hands
 
--- the entry gives a claim back
-abbrev pub IsReturn : StepRec → Type 0
-IsReturn e = IsCallOf act.Return e.call
-
-abbrev pub AllReturns : List StepRec → Type 0
-AllReturns [] = Unit {0}
-AllReturns (e ∷ es) = IsReturn e × AllReturns es
-
--- from the history h to the history k claims were given back, and nothing else was done
-abbrev pub AreReturned : List StepRec → List StepRec → Type 0
-AreReturned h k = (es : List StepRec) × ((k ≡ es ++ h) × AllReturns es)
+-- the entry by which the actor gives the claim back
+abbrev pub return_of : Taken → StepRec
+return_of t = record { actor = t.actor; call = call.GiveBack t.claim.number; reply = Back }

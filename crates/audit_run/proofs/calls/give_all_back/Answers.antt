@@ -1,5 +1,5 @@
 use Rattle.std.proofs.Common.{◌≡◌, ◌∙◌, List, [], ◌∷◌, ◌++◌, ap, sym}
-use Rattle.std.proofs.lemmas.List.{append-nil}
+use Rattle.std.proofs.lemmas.List.{append-nil, append_assoc}
 use Rattle.audit_model.specs.declared.step.StepRec.{StepRec}
 use Rattle.audit_model.specs.declared.step.Call.TheVariants.{GiveBack}
 use Rattle.audit_model.specs.declared.step.Reply.TheVariants.{Back}
@@ -17,6 +17,7 @@ loop-taken-preserved c =
     let taken = rw c.in-Some.ensures.items at c.loop-taken.invariant.taken in
     let p = parted c.loop-taken.core.ground c.loop-taken.core.history c.pop.new.self.items c.in-Some.taken [] taken in
     let q = rw (append-nil c.pop.new.self.items) at p in
+    let done = c.loop-taken.invariant.returned.0 in
     let e : StepRec = record { actor = c.in-Some.taken.actor; call = GiveBack c.in-Some.taken.claim.number; reply = Back } in
     record {
       ground = c.give_back.ensures.ground ∙ c.loop-taken.invariant.ground;
@@ -24,5 +25,11 @@ loop-taken-preserved c =
       taken = rw (c.give_back.ensures.ground, c.give_back.ensures.history)
           (all_taken c.loop-taken.core.ground c.loop-taken.core.history e c.pop.new.self.items c.loop-taken.invariant.legal
           (each_map (Differs c.in-Some.taken.claim.number) (LeavesOut c.loop-taken.core.history e) (λ t d. return_leaves c.loop-taken.core.history c.in-Some.taken.actor c.in-Some.taken.claim.number t d) c.pop.new.self.items q.differ) q.rest);
-      returned = (e ∷ c.loop-taken.invariant.returned.0, (c.give_back.ensures.history ∙ ap (λ (k : List StepRec). e ∷ k) c.loop-taken.invariant.returned.1.0, (tt, c.loop-taken.invariant.returned.1.1)));
+      returned = (
+        c.in-Some.taken ∷ done,
+        (
+          c.loop-taken.invariant.returned.1.0 ∙ rw c.in-Some.ensures.items (append_assoc c.pop.new.self.items (c.in-Some.taken ∷ []) done),
+          c.give_back.ensures.history ∙ ap (λ (k : List StepRec). e ∷ k) c.loop-taken.invariant.returned.1.1,
+        ),
+      );
     }

@@ -1,9 +1,8 @@
-use Rattle.std.proofs.Common.{◌≡◌, ◌∙◌, List, [], ◌∷◌, ◌++◌, ap, sym}
+use Rattle.std.proofs.Common.{◌∙◌, List, [], ◌∷◌, ap}
 use Rattle.std.proofs.lemmas.List.{append-nil, append_assoc}
 use Rattle.audit_model.specs.declared.step.StepRec.{StepRec}
 use Rattle.audit_model.specs.declared.step.Call.TheVariants.{GiveBack}
 use Rattle.audit_model.specs.declared.step.Reply.TheVariants.{Back}
-use Rattle.audit_run.specs.Holding.{AreTaken}
 use Rattle.audit_run.proofs.HoldLaws.{LeavesOut, Differs, all_taken, each_map, parted, return_leaves}
 use Rattle.audit_run.proofs.calls.give_all_back.Goals as goal
 

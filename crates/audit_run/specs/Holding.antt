@@ -50,6 +50,10 @@ abbrev pub AreBegun : List StepRec → List Begun → Type 0
 AreBegun h [] = Unit {0}
 AreBegun h (b ∷ bs) = (has_begun h b.actor b.base.revision ≡ true) × AreBegun h bs
 
+-- wherever these drafts were begun, the actor began one on this revision
+abbrev pub HasBase : ℕ → ℕ → List Begun → Type 0
+HasBase actor r bs = (h : List StepRec) → AreBegun h bs → has_begun h actor r ≡ true
+
 -- a draft of the actor's stands at this place, from 0
 pub record IsDraftAt (actor place : ℕ) (bs : List Begun) : Type 0 where
   pub within : place < length bs

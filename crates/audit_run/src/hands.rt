@@ -1,6 +1,6 @@
-ghost use Rattle.std.specs.Prelude.{◌≡◌, true, List, ◌≤◌, [], vec_len, vec_capacity, MatchOption, IfSome};
+ghost use Rattle.std.specs.Prelude.{◌≡◌, List, ◌≤◌, [], vec_len, vec_capacity, MatchOption, IfSome};
 ghost use Rattle.audit_model.specs.declared.step.StepRec.{StepRec};
-ghost use Rattle.audit_run.specs.Holding.{has_begun, AreBegun, IsActorsAt, IsDraftAt, IsTakenOut};
+ghost use Rattle.audit_run.specs.Holding.{AreBegun, HasBase, IsActorsAt, IsDraftAt, IsTakenOut};
 
 use model_view::{Claim, Snapshot};
 use std::alloc::Global;
@@ -76,7 +76,7 @@ fn claim_of(claims: &[Taken], actor: u32) -> Option<usize>
 /// Takes out the first draft of the actor.
 pub fn take_base(drafts: &mut Vec<Begun>, actor: u32) -> Option<Snapshot>
     ensures rest { (h : List StepRec) → AreBegun h drafts.old.items → AreBegun h drafts.new.items }
-    ensures base { IfSome result (λ base. (h : List StepRec) → AreBegun h drafts.old.items → has_begun h actor base.revision ≡ true) }
+    ensures base { IfSome result (λ base. HasBase actor base.revision drafts.old.items) }
     ensures fewer { vec_len drafts.new ≤ vec_len drafts.old }
     ensures capacity { vec_capacity drafts.new ≡ vec_capacity drafts.old }
 {

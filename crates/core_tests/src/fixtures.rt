@@ -1,4 +1,4 @@
-ghost use Rattle.std.specs.Prelude.{◌≡◌, ◌≤◌, length, IfOk};
+ghost use Rattle.std.specs.Prelude.{◌≡◌, length, IfOk};
 ghost use Rattle.audit_model.specs.Models.{HasDistinctIds};
 ghost use Rattle.audit_model.specs.Pairs.{NumberedFrom};
 ghost use Rattle.audit_run.specs.Holding.{HaveFewRequirements};

@@ -1,5 +1,3 @@
-ghost use Rattle.std.specs.Prelude.{◌≡◌, ◌∷◌, [], IfOk};
-
 use crate::fixtures::{wall, wall_specifications, walls};
 use audit_core::{Core, CoreJournal};
 use audit_model::{CommitRefusal, Edit, EditFault, Edits, Limits, Pair, Reply};

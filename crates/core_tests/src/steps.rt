@@ -1,5 +1,4 @@
-ghost use Rattle.std.specs.Prelude.{◌≡◌, ◌≤◌};
-ghost use Rattle.audit_model.specs.History.{model_at, revision};
+ghost use Rattle.std.specs.Prelude.{◌≡◌};
 ghost use Rattle.audit_core.specs.Steps.{IsOut};
 
 use crate::fixtures::{wall, wall_specifications, walls};

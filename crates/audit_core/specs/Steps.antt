@@ -1,5 +1,5 @@
 -- What a call of the core does to its history, and what its answers say.
-use Rattle.std.specs.Prelude.{◌≡◌, true, ℕ, ◌∷◌, None, Some}
+use Rattle.std.specs.Prelude.{◌≡◌, Bool, true, false, ℕ, ◌∷◌, None, Some}
 use Rattle.audit_model.specs.declared.verdict.Pair.{Pair}
 use Rattle.audit_model.specs.declared.step.Given.{Given}
 use Rattle.audit_model.specs.declared.step.StepRec.{StepRec}
@@ -38,6 +38,11 @@ pub record Unchanged (old new : CoreView) : Type 0 where
 abbrev pub IsHalted : CoreView → CoreView → ℕ → Halt → Type 0
 IsHalted old new n halt.Full = Unchanged old new × (is_full old.ground old.history n ≡ true)
 IsHalted old new n halt.Memory = Unchanged old new
+
+-- the answer says that there is no room
+abbrev pub tells_full : Halt → Bool
+tells_full halt.Full = true
+tells_full halt.Memory = false
 
 -- Claims.
 

@@ -8,8 +8,8 @@ ghost use Rattle.audit_model.specs.History.{changed_since, current, last_change,
 ghost use Rattle.audit_model.specs.Machine.{is_full, least_claimable, least_unsettled, Legal, MayFollow, pairs_now};
 ghost use Rattle.audit_core.specs.Changes.{has_place};
 ghost use Rattle.audit_core.specs.Cores.{now_of};
-ghost use Rattle.audit_core.specs.Commits.{IsNotPrepared, IsPlan, IsPlanned, IsPreparedFor};
-ghost use Rattle.audit_core.specs.Steps.{claim_told, delivery_told, publish_told, Adds, IfGiven, IsAudit, IsClaimOf, IsHalted, IsOut, IsTrueFinding, IsUse, Unchanged};
+ghost use Rattle.audit_core.specs.Commits.{gives_full, IsNotPrepared, IsPlan, IsPlanned, IsPreparedFor};
+ghost use Rattle.audit_core.specs.Steps.{claim_told, delivery_told, publish_told, tells_full, Adds, IfGiven, IsAudit, IsClaimOf, IsHalted, IsOut, IsTrueFinding, IsUse, Unchanged};
 
 use crate::board::{
     Kept, Row, back_to, empty_rows, first_unsettled, next_claimable, pair_at, place_of, settle,
@@ -171,6 +171,7 @@ impl<'a> Core<'a> {
         ensures ok { OnOk result (n ≤ self.new.spare) }
         ensures not_full { OnOk result (is_full self.old.ground self.old.history n ≡ false) }
         ensures halted { IfErr result (λ why. IsHalted self.old self.new n why) }
+        ensures full { IfErr result (λ why. is_full self.old.ground self.old.history n ≡ tells_full why) }
     {
         let used = self.journal.len() as u64 + self.claims.len() as u64;
         if self.limits.steps - used < n {
@@ -189,6 +190,7 @@ impl<'a> Core<'a> {
         ensures snapshot { IfOk result (λ base. base ≡ now_of self.old) }
         ensures not_full { OnOk result (is_full self.old.ground self.old.history 1 ≡ false) }
         ensures halted { IfErr result (λ why. IsHalted self.old self.new 1 why) }
+        ensures full { IfErr result (λ why. is_full self.old.ground self.old.history 1 ≡ tells_full why) }
     {
         self.make_room(1)?;
         let Ok(base) = self.current.share() else {
@@ -221,6 +223,7 @@ impl<'a> Core<'a> {
         ensures given { IfOk result (λ told. IfGiven self.old self.new actor told) }
         ensures not_full { OnOk result (is_full self.old.ground self.old.history 2 ≡ false) }
         ensures halted { IfErr result (λ why. IsHalted self.old self.new 2 why) }
+        ensures full { IfErr result (λ why. is_full self.old.ground self.old.history 2 ≡ tells_full why) }
     {
         self.make_room(2)?;
         match self.next_pair() {
@@ -255,6 +258,7 @@ impl<'a> Core<'a> {
             (record { actor = actor; call = Call.Claim; reply = claim_told told })) }
         ensures given { IfOk result (λ told. IfGiven self.old self.new actor told) }
         ensures halted { IfErr result (λ why. IsHalted self.old self.new 2 why) }
+        ensures full { IfErr result (λ why. is_full self.old.ground self.old.history 2 ≡ tells_full why) }
     {
         if self.claims.reserve(1).is_err() {
             return Err(Halt::Memory);
@@ -409,6 +413,7 @@ impl<'a> Core<'a> {
         ensures report { IfOk result (λ told. IsAudit self.old told) }
         ensures not_full { OnOk result (is_full self.old.ground self.old.history 1 ≡ false) }
         ensures halted { IfErr result (λ why. IsHalted self.old self.new 1 why) }
+        ensures full { IfErr result (λ why. is_full self.old.ground self.old.history 1 ≡ tells_full why) }
     {
         self.make_room(1)?;
         match self.pending_pair() {
@@ -444,6 +449,7 @@ impl<'a> Core<'a> {
             (record { actor = actor; call = Call.Publish; reply = publish_told told })) }
         ensures report { IfOk result (λ told. IsAudit self.old told) }
         ensures halted { IfErr result (λ why. IsHalted self.old self.new 1 why) }
+        ensures full { IfErr result (λ why. is_full self.old.ground self.old.history 1 ≡ tells_full why) }
     {
         let revision = self.current.revision();
         let Ok(tallies) = self.tallies(alloc) else {
@@ -493,7 +499,8 @@ impl<'a> Core<'a> {
         requires refused { judge self.old.ground.limits (revision self.old.history)
             (last_change self.old.ground self.old.history) draft.base.revision
             (current self.old.ground self.old.history) draft.edits ≡ Some why }
-        ensures { IsNotPrepared self.old self.new actor draft result }
+        ensures not_prepared { IsNotPrepared self.old self.new actor draft result }
+        ensures not_full { gives_full result ≡ false }
     {
         let Ok(edits) = draft.edits().copy(alloc) else {
             return NotPrepared::Memory(draft);
@@ -528,6 +535,7 @@ impl<'a> Core<'a> {
         ensures edits { IfOk result (λ prepared. prepared.edits ≡ draft.edits) }
         ensures unchanged { OnOk result (Unchanged self.old self.new) }
         ensures not_prepared { IfErr result (λ why. IsNotPrepared self.old self.new actor draft why) }
+        ensures full { IfErr result (λ why. is_full self.old.ground self.old.history 1 ≡ gives_full why) }
     {
         match self.make_room(1) {
             Ok(()) => {}
@@ -562,6 +570,7 @@ impl<'a> Core<'a> {
         ensures edits { IfOk result (λ prepared. prepared.edits ≡ draft.edits) }
         ensures unchanged { OnOk result (Unchanged self.old self.new) }
         ensures not_prepared { IfErr result (λ why. IsNotPrepared self.old self.new actor draft why) }
+        ensures not_full { IfErr result (λ why. gives_full why ≡ false) }
     {
         if self.make_places(&keys).is_err() {
             return Err(NotPrepared::Memory(draft));

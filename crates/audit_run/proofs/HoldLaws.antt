@@ -1,27 +1,29 @@
 -- What actors hold stays theirs while others make entries.
-use Rattle.std.proofs.Common.{◌≡◌, ℕ, suc, zero, ◌+◌, ◌<◌, ◌≤◌, Bool, true, false, not, cond, ◌==◌, List, [], ◌∷◌, ◌++◌, length, find, filter, take, drop, get_or, Option, Some, None, refl, arith, ap, sym, subst, ◌∙◌}
+use Rattle.std.proofs.Common.{◌≡◌, ℕ, suc, zero, ◌+◌, ◌<◌, ◌≤◌, Bool, true, false, not, cond, ◌||◌, ◌==◌, List, [], ◌∷◌, ◌++◌, length, take, drop, get_or, Option, Some, None, refl, arith, ap, sym, subst, ◌∙◌}
 use Rattle.std.specs.List.{cons_option, remove}
-use Rattle.std.proofs.lemmas.Bool.{eqb-true, ne_eqb, true≢false}
-use Rattle.audit_model.specs.declared.commit.Edit.{Edit}
+use Rattle.std.proofs.lemmas.Bool.{and_parts, eqb-true, ne_eqb, true≢false}
+use Rattle.ifc_base.specs.declared.key.Key.{Key}
+use Rattle.audit_model.specs.declared.commit.CommitRefusal.{CommitRefusal}
 use Rattle.audit_model.specs.declared.verdict.Pair.{Pair}
 use Rattle.audit_model.specs.declared.step.Given.{Given}
 use Rattle.audit_model.specs.declared.step.StepRec.{StepRec}
-use Rattle.audit_model.specs.declared.step.Call.TheVariants.{Claim, Deliver, GiveBack}
+use Rattle.audit_model.specs.declared.step.Call.{Call}
+use Rattle.audit_model.specs.declared.step.Call.TheVariants.{Begin, Commit, Claim, Deliver, GiveBack, Publish}
 use Rattle.audit_model.specs.declared.step.Reply.{Reply}
 use Rattle.audit_model.specs.declared.step.Reply.TheVariants.{Claimed, Back}
-use Rattle.audit_model.specs.History.{Ground, accepted, commits, current, revision, model_at, out, given, claim_numbered, without_claim}
-use Rattle.audit_model.specs.Machine.{Legal, MayFollow, claimed, least_claimable}
+use Rattle.audit_model.specs.History.{Ground, judge_in, last_change, accepted, commits, current, revision, out, given, claim_numbered, without_claim}
+use Rattle.audit_model.specs.Machine.{Answers, Legal, MayFollow, claimed, committed, delivered, published, least_claimable, least_changed, least_unsettled}
 use Rattle.audit_model.proofs.Claims.{IsSound, sound_out}
 use Rattle.audit_model.proofs.Commits.{model_of-last}
 use Rattle.audit_model.proofs.HistoryLaws.{earlier_models_stay}
 use Rattle.audit_model.proofs.Numbers.{out_numbers}
-use Rattle.audit_model.proofs.Tests.{Each, Each-found}
+use Rattle.audit_model.proofs.Tests.{Each, Each-found, or_true}
 use Rattle.model_view.specs.Views.{ClaimView}
 use Rattle.audit_core.specs.Cores.{now_in}
 use Rattle.audit_core.specs.Steps.{given_of}
 use Rattle.audit_run.specs.declared.hands.Begun.{Begun}
 use Rattle.audit_run.specs.declared.hands.Taken.{Taken}
-use Rattle.audit_run.specs.Holding.{IsTaken, AreTaken, AreLater, ArePast}
+use Rattle.audit_run.specs.Holding.{IsTaken, AreTaken, AreLater, AreBegun, is_began, begins, has_begun}
 
 -- a claim that is out is of a revision so far
 early : (g : Ground) (h : List StepRec) (t : Taken) → Legal g h → IsTaken g h t → t.claim.snapshot.revision ≤ revision h
@@ -147,27 +149,67 @@ parted g h (x ∷ xs) t back k =
 
 -- Drafts.
 
-pub past_more : (n m : ℕ) (bs : List Begun) → n ≤ m → ArePast n bs → ArePast m bs
-past_more n m [] l p = tt
-past_more n m (b ∷ bs) l p = (omega (arith, l, p.0), past_more n m bs l p.1)
+pub begun_more : (e : StepRec) (h : List StepRec) (bs : List Begun) → AreBegun h bs → AreBegun (e ∷ h) bs
+begun_more e h [] p = tt
+begun_more e h (b ∷ bs) p = (rw p.0 (or_true (begins b.actor b.base.revision e)), begun_more e h bs p.1)
 
-pub past_push : (n : ℕ) (bs : List Begun) (b : Begun) → ArePast n bs → b.base.revision ≤ n → ArePast n (bs ++ b ∷ [])
-past_push n [] b p l = (l, tt)
-past_push n (x ∷ xs) b p l = (p.0, past_push n xs b p.1 l)
+pub begun_push : (h : List StepRec) (bs : List Begun) (b : Begun) → AreBegun h bs → has_begun h b.actor b.base.revision ≡ true → AreBegun h (bs ++ b ∷ [])
+begun_push h [] b p l = (l, tt)
+begun_push h (x ∷ xs) b p l = (p.0, begun_push h xs b p.1 l)
+
+pub begun_at : (h : List StepRec) (bs : List Begun) (i : ℕ) (d : Begun) → AreBegun h bs → i < length bs → has_begun h (get_or bs i d).actor (get_or bs i d).base.revision ≡ true
+begun_at h [] i d p l = absurd (omega arith)
+begun_at h (b ∷ bs) zero d p l = p.0
+begun_at h (b ∷ bs) (suc i) d p l = begun_at h bs i d p.1 (omega (arith, l))
+
+pub begun_remove : (h : List StepRec) (bs : List Begun) (i : ℕ) → AreBegun h bs → AreBegun h (remove bs i)
+begun_remove h [] zero p = tt
+begun_remove h [] (suc i) p = tt
+begun_remove h (b ∷ bs) zero p = p.1
+begun_remove h (b ∷ bs) (suc i) p = (p.0, begun_remove h bs i p.1)
 
 pub revision_grows : (e : StepRec) (h : List StepRec) → revision h ≤ revision (e ∷ h)
 revision_grows e h = elim (accepted e) as (λ o. length (commits h) ≤ length (cons_option o (commits h))) [ None ↦ omega arith | Some edits ↦ omega arith ]
 
-pub past_at : (n : ℕ) (bs : List Begun) (i : ℕ) (d : Begun) → ArePast n bs → i < length bs → (get_or bs i d).base.revision ≤ n
-past_at n [] i d p l = absurd (omega arith)
-past_at n (b ∷ bs) zero d p l = p.0
-past_at n (b ∷ bs) (suc i) d p l = past_at n bs i d p.1 (omega (arith, l))
+-- No other reply is Began.
 
-pub past_remove : (n : ℕ) (bs : List Begun) (i : ℕ) → ArePast n bs → ArePast n (remove bs i)
-past_remove n [] zero p = tt
-past_remove n [] (suc i) p = tt
-past_remove n (b ∷ bs) zero p = p.1
-past_remove n (b ∷ bs) (suc i) p = (p.0, past_remove n bs i p.1)
+not_claimed : (o : Option Pair) (n q r : ℕ) → is_began r (claimed o n q) ≡ false
+not_claimed None n q r = refl
+not_claimed (Some p) n q r = refl
+
+not_delivered : (o : Option Key) (last : Key → ℕ) (r : ℕ) → is_began r (delivered o last) ≡ false
+not_delivered None last r = refl
+not_delivered (Some k) last r = refl
+
+not_published : (o : Option Pair) (q r : ℕ) → is_began r (published o q) ≡ false
+not_published None q r = refl
+not_published (Some p) q r = refl
+
+not_committed : (o : Option CommitRefusal) (q r : ℕ) → is_began r (committed o q) ≡ false
+not_committed None q r = refl
+not_committed (Some why) q r = refl
+
+-- a draft is begun on a revision so far
+begun_now : (g : Ground) (h : List StepRec) (actor : ℕ) (call : Call) (reply : Reply) (r : ℕ) → Answers g h actor call reply → is_began r reply ≡ true → r ≤ revision h
+begun_now g h actor Begin reply r m b =
+    let same : revision h ≡ r = eqb-true (revision h) r (subst (λ (x : Reply). is_began r x ≡ true) m b) in
+    rw (← same) (omega arith)
+begun_now g h actor (Commit base edits) reply r m b = absurd (true≢false (sym b ∙ ap (λ (x : Reply). is_began r x) m.1 ∙ not_committed (judge_in g (revision h) (last_change g h) base (current g h) edits) (revision h + 1) r))
+begun_now g h actor Claim reply r m b = absurd (true≢false (sym b ∙ ap (λ (x : Reply). is_began r x) m ∙ not_claimed (least_claimable g h) (given h + 1) (revision h) r))
+begun_now g h actor (Deliver n) reply r m b = absurd (true≢false (sym b ∙ ap (λ (x : Reply). is_began r x) m.2 ∙ not_delivered (least_changed g h m.0) (last_change g h) r))
+begun_now g h actor (GiveBack n) reply r m b = absurd (true≢false (sym b ∙ ap (λ (x : Reply). is_began r x) m.2))
+begun_now g h actor Publish reply r m b = absurd (true≢false (sym b ∙ ap (λ (x : Reply). is_began r x) m ∙ not_published (least_unsettled g h) (revision h) r))
+
+pub begun_past : (g : Ground) (h : List StepRec) (actor r : ℕ) → Legal g h → has_begun h actor r ≡ true → r ≤ revision h
+begun_past g [] actor r l b = absurd (true≢false (sym b))
+begun_past g (e ∷ h) actor r l b =
+    let F : Bool → Type 0 = λ t. begins actor r e ≡ t → (t || has_begun h actor r) ≡ true → r ≤ revision h in
+    let at : F (begins actor r e) = elim (begins actor r e) as F [
+      | true ↦ λ k m. begun_now g h e.actor e.call e.reply r l.0 (and_parts (e.actor == actor) (is_began r e.reply) k).1
+      | false ↦ λ k m. begun_past g h actor r l.1 m
+    ] in
+    let early : r ≤ revision h = at refl b in
+    omega (arith, early, revision_grows e h)
 
 -- a list around one of its elements
 pub split_at_place : {X : Type 0} (xs : List X) (i : ℕ) (x : X) → i < length xs → x ≡ get_or xs i x → xs ≡ take i xs ++ x ∷ drop (suc i) xs

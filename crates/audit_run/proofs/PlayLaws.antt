@@ -1,13 +1,13 @@
 -- Calls that are played, one at a time.
-use Rattle.std.proofs.Common.{◌≡◌, ℕ, ◌+◌, ◌<◌, ◌≤◌, List, [], ◌∷◌, ◌++◌, Option, Some, None, refl, arith, ap, sym, subst, ◌∙◌, inl, inr}
+use Rattle.std.proofs.Common.{◌≡◌, ℕ, true, ◌==◌, List, [], ◌∷◌, ◌++◌, Some, refl, sym, subst, ◌∙◌, inl, inr}
+use Rattle.std.proofs.lemmas.Bool.{and_from, eq-eqb}
 use Rattle.std.proofs.lemmas.List.{append-nil, append_assoc}
 use Rattle.audit_model.specs.declared.commit.Edit.{Edit}
 use Rattle.audit_model.specs.declared.step.StepRec.{StepRec}
-use Rattle.audit_model.specs.declared.step.Call.{Call}
 use Rattle.audit_model.specs.declared.step.Call.TheVariants as call
 use Rattle.audit_model.specs.declared.step.Reply.{Reply}
 use Rattle.audit_model.specs.declared.step.Reply.TheVariants as reply
-use Rattle.audit_model.specs.History.{Ground, revision, out, claim_numbered}
+use Rattle.audit_model.specs.History.{revision, out, claim_numbered}
 use Rattle.audit_model.specs.Machine.{Legal, MayFollow}
 use Rattle.audit_model.proofs.Tests.{Each}
 use Rattle.model_view.specs.Views.{ClaimView, DraftView, FindingView, SnapshotView}
@@ -15,19 +15,19 @@ use Rattle.model_view.specs.declared.answers.NotPrepared.{NotPrepared}
 use Rattle.model_view.specs.declared.answers.NotPrepared.TheVariants as unprepared
 use Rattle.model_view.specs.declared.answers.Delivered.{Delivered}
 use Rattle.model_view.specs.declared.answers.Delivered.TheVariants as delivered
-use Rattle.audit_core.specs.Cores.{CoreView, now_of}
+use Rattle.audit_core.specs.Cores.{CoreView}
 use Rattle.audit_core.specs.Commits.{IsNotPrepared}
 use Rattle.model_view.specs.declared.answers.Halt.{Halt}
 use Rattle.model_view.specs.declared.answers.Halt.TheVariants as halt
-use Rattle.audit_core.specs.Steps.{Adds, Unchanged, IsHalted, given_of, delivery_told, IsOut, IsGiven, IsTrueFinding}
+use Rattle.audit_core.specs.Steps.{Adds, Unchanged, IsHalted, given_of, delivery_told, IsGiven, IsTrueFinding}
 use Rattle.audit_run.specs.declared.hands.Begun.{Begun}
 use Rattle.audit_run.specs.declared.hands.Taken.{Taken}
 use Rattle.audit_run.specs.declared.calls.Act.{Act}
 use Rattle.audit_run.specs.declared.calls.Act.TheVariants as act
 use Rattle.audit_run.specs.declared.calls.Asked.{Asked}
-use Rattle.audit_run.specs.Holding.{HandsView, IsTaken, AreTaken, ArePast, IsTakenOut, IsFindingOf}
+use Rattle.audit_run.specs.Holding.{HandsView, IsTaken, AreTaken, AreBegun, begins, has_begun, IsTakenOut, IsFindingOf}
 use Rattle.audit_run.specs.Runs.{IsCallOf, IsEntryOf, IsStep, IsRun, reported, reports, IsHolding, IsPlayed, IsPlay}
-use Rattle.audit_run.proofs.HoldLaws.{LeavesOut, Differs, AreParted, all_taken, each_all, each_map, taken_more, delivery_leaves, return_leaves, parted, past_more, past_push, revision_grows}
+use Rattle.audit_run.proofs.HoldLaws.{LeavesOut, Differs, AreParted, all_taken, each_all, each_map, taken_more, delivery_leaves, return_leaves, parted, begun_more, begun_push}
 
 -- Playing.
 
@@ -39,7 +39,7 @@ played_none {old = old} hands asked u k = record {
   holding = k;
 }
 
-pub played_by : {old new : CoreView} {e : StepRec} (hands : HandsView) (asked : Asked) (told : List (List ℕ)) → Adds old new e → IsEntryOf asked e → reported old.ground old.history e.reply ≡ told → IsHolding new hands → IsPlayed old new hands asked told
+pub played_by : {old new : CoreView} {e : StepRec} (hands : HandsView) (asked : Asked) (told : List (List ℕ)) → Adds old new e → IsEntryOf old.history asked e → reported old.ground old.history e.reply ≡ told → IsHolding new hands → IsPlayed old new hands asked told
 played_by {e = e} hands asked told a of r k = record {
   ground = a.ground;
   step = inr (e, (a.history, of));
@@ -57,36 +57,41 @@ holding_on u k = record {
 }
 
 -- after an entry that leaves these claims out, with these drafts
-pub holding_after : {old new : CoreView} {e : StepRec} (drafts : List Begun) (claims : List Taken) → Adds old new e → Legal old.ground old.history → AreTaken old.ground old.history claims → Each (LeavesOut old.history e) claims → ArePast (revision old.history) drafts → IsHolding new (record { drafts = drafts; claims = claims })
+pub holding_after : {old new : CoreView} {e : StepRec} (drafts : List Begun) (claims : List Taken) → Adds old new e → Legal old.ground old.history → AreTaken old.ground old.history claims → Each (LeavesOut old.history e) claims → AreBegun old.history drafts → IsHolding new (record { drafts = drafts; claims = claims })
 holding_after {old = old} {e = e} drafts claims a l k leaves p = record {
   legal = rw (a.ground, a.history) (a.lawful, l);
   claims = rw (a.ground, a.history) (all_taken old.ground old.history e claims l leaves k);
-  drafts = rw a.history (past_more (revision old.history) (revision (e ∷ old.history)) drafts (revision_grows e old.history) p);
+  drafts = rw a.history (begun_more e old.history drafts p);
 }
 
 -- Beginning.
 
-pub began : {old new : CoreView} {hands : HandsView} (actor r : ℕ) (drafts : List Begun) (base : SnapshotView) → IsHolding old hands → Adds old new (record { actor = actor; call = call.Begin; reply = reply.Began r }) → base ≡ now_of old → ArePast (revision old.history) drafts →
+pub began : {old new : CoreView} {hands : HandsView} (actor : ℕ) (drafts : List Begun) (base : SnapshotView) → IsHolding old hands → Adds old new (record { actor = actor; call = call.Begin; reply = reply.Began base.revision }) → AreBegun old.history drafts →
     IsPlayed old new (record { drafts = drafts ++ record { actor = actor; base = base } ∷ []; claims = hands.claims }) (record { actor = actor; act = act.Begin }) []
-began {old = old} {hands = hands} actor r drafts base k a b p =
-    let last : base.revision ≤ revision old.history = rw b (omega arith) in
+began {old = old} {new = new} {hands = hands} actor drafts base k a p =
+    let e : StepRec = record { actor = actor; call = call.Begin; reply = reply.Began base.revision } in
+    let begun : begins actor base.revision e ≡ true = and_from (actor == actor) (base.revision == base.revision) (eq-eqb actor actor refl) (eq-eqb base.revision base.revision refl) in
+    let on : IsHolding new (record { drafts = drafts; claims = hands.claims }) = holding_after drafts hands.claims a k.legal k.claims (each_all (LeavesOut old.history e) (λ t e'. e') hands.claims) p in
     played_by (record { drafts = drafts ++ record { actor = actor; base = base } ∷ []; claims = hands.claims }) (record { actor = actor; act = act.Begin }) [] a (record { by = refl; of = tt }) refl
-    (holding_after (drafts ++ record { actor = actor; base = base } ∷ []) hands.claims a k.legal k.claims (each_all (LeavesOut old.history (record { actor = actor; call = call.Begin; reply = reply.Began r })) (λ t e. e) hands.claims)
-    (past_push (revision old.history) drafts (record { actor = actor; base = base }) p last))
+    (record {
+      legal = on.legal;
+      claims = on.claims;
+      drafts = rw a.history (begun_push (e ∷ old.history) drafts (record { actor = actor; base = base }) (begun_more e old.history drafts p) (rw begun refl));
+    })
 
 -- Committing.
 
-pub committed : {old new : CoreView} {hands : HandsView} (actor base : ℕ) (edits : List Edit) (told : Reply) (drafts : List Begun) → IsHolding old hands → Adds old new (record { actor = actor; call = call.Commit base edits; reply = told }) → reported old.ground old.history told ≡ [] → ArePast (revision old.history) drafts →
+pub committed : {old new : CoreView} {hands : HandsView} (actor base : ℕ) (edits : List Edit) (told : Reply) (drafts : List Begun) → IsHolding old hands → Adds old new (record { actor = actor; call = call.Commit base edits; reply = told }) → reported old.ground old.history told ≡ [] → has_begun old.history actor base ≡ true → AreBegun old.history drafts →
     IsPlayed old new (record { drafts = drafts; claims = hands.claims }) (record { actor = actor; act = act.Commit edits }) []
-committed {old = old} {hands = hands} actor base edits told drafts k a r p =
-    played_by (record { drafts = drafts; claims = hands.claims }) (record { actor = actor; act = act.Commit edits }) [] a (record { by = refl; of = refl }) r
+committed {old = old} {hands = hands} actor base edits told drafts k a r b p =
+    played_by (record { drafts = drafts; claims = hands.claims }) (record { actor = actor; act = act.Commit edits }) [] a (record { by = refl; of = (refl, b) }) r
     (holding_after drafts hands.claims a k.legal k.claims (each_all (LeavesOut old.history (record { actor = actor; call = call.Commit base edits; reply = told })) (λ t e. e) hands.claims) p)
 
-pub not_committed : {old new : CoreView} {hands : HandsView} (actor : ℕ) (draft : DraftView) (drafts : List Begun) (r : NotPrepared) → IsHolding old hands → IsNotPrepared old new actor draft r → ArePast (revision old.history) drafts →
+pub not_committed : {old new : CoreView} {hands : HandsView} (actor : ℕ) (draft : DraftView) (drafts : List Begun) (r : NotPrepared) → IsHolding old hands → IsNotPrepared old new actor draft r → has_begun old.history actor draft.base.revision ≡ true → AreBegun old.history drafts →
     IsPlayed old new (record { drafts = drafts; claims = hands.claims }) (record { actor = actor; act = act.Commit draft.edits }) []
-not_committed actor draft drafts (unprepared.Refused why back) k n p = committed actor draft.base.revision draft.edits (reply.Refused why) drafts k n.0 refl p
-not_committed {hands = hands} actor draft drafts (unprepared.Full back) k n p = played_none (record { drafts = drafts; claims = hands.claims }) (record { actor = actor; act = act.Commit draft.edits }) n.0 (holding_on n.0 (record { legal = k.legal; claims = k.claims; drafts = p }))
-not_committed {hands = hands} actor draft drafts (unprepared.Memory back) k n p = played_none (record { drafts = drafts; claims = hands.claims }) (record { actor = actor; act = act.Commit draft.edits }) n.0 (holding_on n.0 (record { legal = k.legal; claims = k.claims; drafts = p }))
+not_committed actor draft drafts (unprepared.Refused why back) k n b p = committed actor draft.base.revision draft.edits (reply.Refused why) drafts k n.0 refl b p
+not_committed {hands = hands} actor draft drafts (unprepared.Full back) k n b p = played_none (record { drafts = drafts; claims = hands.claims }) (record { actor = actor; act = act.Commit draft.edits }) n.0 (holding_on n.0 (record { legal = k.legal; claims = k.claims; drafts = p }))
+not_committed {hands = hands} actor draft drafts (unprepared.Memory back) k n b p = played_none (record { drafts = drafts; claims = hands.claims }) (record { actor = actor; act = act.Commit draft.edits }) n.0 (holding_on n.0 (record { legal = k.legal; claims = k.claims; drafts = p }))
 
 -- Taking.
 
@@ -98,7 +103,7 @@ took {old = old} {hands = hands} actor claim k a given =
     (record {
       legal = rw (a.ground, a.history) (a.lawful, k.legal);
       claims = rw (a.ground, a.history) (taken_more old.ground old.history hands.claims actor claim k.legal a.lawful given.snapshot (subst (λ (hs : List StepRec). claim_numbered claim.number (out hs) ≡ Some (given_of actor claim)) a.history given.is_out) k.claims);
-      drafts = rw a.history (past_more (revision old.history) (revision (e ∷ old.history)) hands.drafts (revision_grows e old.history) k.drafts);
+      drafts = rw a.history (begun_more e old.history hands.drafts k.drafts);
     })
 
 pub idle : {old new : CoreView} {hands : HandsView} (actor : ℕ) → IsHolding old hands → Adds old new (record { actor = actor; call = call.Claim; reply = reply.Idle }) → IsPlayed old new hands (record { actor = actor; act = act.Take }) []
@@ -130,14 +135,14 @@ gave {old = old} {hands = hands} actor number claim told rest k p n a =
       quiet (delivered.Stale key revision) = refl
 
 -- the act lets a claim be given back
-pub gave_back : {old new : CoreView} {hands : HandsView} (act' : Act) (actor number : ℕ) (claim : ClaimView) (rest : List Taken) → IsCallOf act' (call.GiveBack number) → IsHolding old hands → AreParted old.ground old.history (record { actor = actor; claim = claim }) rest → number ≡ claim.number →
+pub gave_back : {old new : CoreView} {hands : HandsView} (act' : Act) (actor number : ℕ) (claim : ClaimView) (rest : List Taken) → IsCallOf old.history actor act' (call.GiveBack number) → IsHolding old hands → AreParted old.ground old.history (record { actor = actor; claim = claim }) rest → number ≡ claim.number →
     Adds old new (record { actor = actor; call = call.GiveBack number; reply = reply.Back }) → IsPlayed old new (record { drafts = hands.drafts; claims = rest }) (record { actor = actor; act = act' }) []
 gave_back {old = old} {hands = hands} act' actor number claim rest of k p n a =
     played_by (record { drafts = hands.drafts; claims = rest }) (record { actor = actor; act = act' }) [] a (record { by = refl; of = of }) refl
     (holding_after hands.drafts rest a k.legal p.rest (each_map (Differs claim.number) (LeavesOut old.history (record { actor = actor; call = call.GiveBack number; reply = reply.Back })) (λ t d. return_leaves old.history actor number t (rw n d)) rest p.differ) k.drafts)
 
 -- the same after a call that added no entry
-pub gave_back_after : {old mid new : CoreView} {hands : HandsView} (act' : Act) (actor number : ℕ) (claim : ClaimView) (rest : List Taken) → IsCallOf act' (call.GiveBack number) → IsHolding old hands → AreParted old.ground old.history (record { actor = actor; claim = claim }) rest → number ≡ claim.number → Unchanged old mid →
+pub gave_back_after : {old mid new : CoreView} {hands : HandsView} (act' : Act) (actor number : ℕ) (claim : ClaimView) (rest : List Taken) → IsCallOf old.history actor act' (call.GiveBack number) → IsHolding old hands → AreParted old.ground old.history (record { actor = actor; claim = claim }) rest → number ≡ claim.number → Unchanged old mid →
     Adds mid new (record { actor = actor; call = call.GiveBack number; reply = reply.Back }) → IsPlayed old new (record { drafts = hands.drafts; claims = rest }) (record { actor = actor; act = act' }) []
 gave_back_after {old = old} act' actor number claim rest of k p n u a = gave_back act' actor number claim rest of k p n (record {
   lawful = subst (λ (hs : List StepRec). MayFollow old.ground hs (record { actor = actor; call = call.GiveBack number; reply = reply.Back })) u.history a.lawful;

@@ -1,10 +1,12 @@
 -- What actors hold between their calls.
-use Rattle.std.specs.Prelude.{◌≡◌, ℕ, ◌<◌, ◌≤◌, List, [], ◌∷◌, ◌++◌, length, nat_lt, slice_index_or, true, Some}
-use Rattle.std.specs.List.{list_all}
+use Rattle.std.specs.Prelude.{◌≡◌, ℕ, ◌<◌, Bool, true, false, ◌&&◌, ◌==◌, List, [], ◌∷◌, ◌++◌, length, nat_lt, slice_index_or, Some}
+use Rattle.std.specs.List.{list_all, list_any}
 use Rattle.audit_model.specs.declared.specification.Specification.{Specification}
 use Rattle.audit_model.specs.Needs.{need}
 use Rattle.audit_model.specs.Verdicts.{verdict}
 use Rattle.audit_model.specs.declared.step.StepRec.{StepRec}
+use Rattle.audit_model.specs.declared.step.Reply.{Reply}
+use Rattle.audit_model.specs.declared.step.Reply.TheVariants.{Began}
 use Rattle.audit_model.specs.History.{Ground, model_at, out, claim_numbered}
 use Rattle.model_view.specs.Views.{ClaimView, FindingView}
 use Rattle.audit_run.specs.declared.hands.Begun.{Begun}
@@ -31,10 +33,31 @@ abbrev pub AreTaken : Ground → List StepRec → List Taken → Type 0
 AreTaken g h [] = Unit {0}
 AreTaken g h (t ∷ ts) = IsTaken g h t × (AreLater t.claim.number ts × AreTaken g h ts)
 
--- these drafts are of the revision n or earlier ones
-abbrev pub ArePast : ℕ → List Begun → Type 0
-ArePast n [] = Unit {0}
-ArePast n (b ∷ bs) = (b.base.revision ≤ n) × ArePast n bs
+abbrev pub is_began : ℕ → Reply → Bool
+is_began r (Began q) = q == r
+is_began r _ = false
+
+-- by the entry the actor began a draft on the revision r
+abbrev pub begins : ℕ → ℕ → StepRec → Bool
+begins actor r e = (e.actor == actor) && is_began r e.reply
+
+-- in the history the actor began a draft on the revision r
+abbrev pub has_begun : List StepRec → ℕ → ℕ → Bool
+has_begun h actor r = list_any (begins actor r) h
+
+-- each of these drafts was begun in the history, by its actor and on the revision of its base
+abbrev pub AreBegun : List StepRec → List Begun → Type 0
+AreBegun h [] = Unit {0}
+AreBegun h (b ∷ bs) = (has_begun h b.actor b.base.revision ≡ true) × AreBegun h bs
+
+-- wherever these drafts were begun, the actor began one on this revision
+abbrev pub HasBase : ℕ → ℕ → List Begun → Type 0
+HasBase actor r bs = (h : List StepRec) → AreBegun h bs → has_begun h actor r ≡ true
+
+-- a draft of the actor's stands at this place, from 0
+pub record IsDraftAt (actor place : ℕ) (bs : List Begun) : Type 0 where
+  pub within : place < length bs
+  pub by : (d : Begun) → (slice_index_or bs place d).actor ≡ actor
 
 -- a claim of the actor's stands at this place, from 0
 pub record IsActorsAt (actor place : ℕ) (ts : List Taken) : Type 0 where

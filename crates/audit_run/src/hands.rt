@@ -1,5 +1,6 @@
-ghost use Rattle.std.specs.Prelude.{◌≡◌, ℕ, ◌<◌, ◌≤◌, [], length, vec_len, vec_capacity, MatchOption, IfSome};
-ghost use Rattle.audit_run.specs.Holding.{ArePast, IsActorsAt, IsTakenOut};
+ghost use Rattle.std.specs.Prelude.{◌≡◌, List, ◌≤◌, [], vec_len, vec_capacity, MatchOption, IfSome};
+ghost use Rattle.audit_model.specs.declared.step.StepRec.{StepRec};
+ghost use Rattle.audit_run.specs.Holding.{AreBegun, HasBase, IsActorsAt, IsDraftAt, IsTakenOut};
 
 use model_view::{Claim, Snapshot};
 use std::alloc::Global;
@@ -50,7 +51,7 @@ impl Hands {
 
 /// The place of the actor's first draft.
 fn draft_of(drafts: &[Begun], actor: u32) -> Option<usize>
-    ensures { IfSome result (λ place. place < length drafts.now) }
+    ensures { IfSome result (λ place. IsDraftAt actor place drafts.now) }
 {
     for (place, begun) in drafts.iter().enumerate() {
         if begun.actor == actor {
@@ -74,8 +75,8 @@ fn claim_of(claims: &[Taken], actor: u32) -> Option<usize>
 
 /// Takes out the first draft of the actor.
 pub fn take_base(drafts: &mut Vec<Begun>, actor: u32) -> Option<Snapshot>
-    ensures rest { (n : ℕ) → ArePast n drafts.old.items → ArePast n drafts.new.items }
-    ensures base { IfSome result (λ base. (n : ℕ) → ArePast n drafts.old.items → base.revision ≤ n) }
+    ensures rest { (h : List StepRec) → AreBegun h drafts.old.items → AreBegun h drafts.new.items }
+    ensures base { IfSome result (λ base. HasBase actor base.revision drafts.old.items) }
     ensures fewer { vec_len drafts.new ≤ vec_len drafts.old }
     ensures capacity { vec_capacity drafts.new ≡ vec_capacity drafts.old }
 {
@@ -86,7 +87,7 @@ pub fn take_base(drafts: &mut Vec<Begun>, actor: u32) -> Option<Snapshot>
 
 /// Ends the first draft of the actor, if it has one.
 pub fn end_draft(drafts: &mut Vec<Begun>, actor: u32)
-    ensures rest { (n : ℕ) → ArePast n drafts.old.items → ArePast n drafts.new.items }
+    ensures rest { (h : List StepRec) → AreBegun h drafts.old.items → AreBegun h drafts.new.items }
     ensures fewer { vec_len drafts.new ≤ vec_len drafts.old }
     ensures capacity { vec_capacity drafts.new ≡ vec_capacity drafts.old }
 {

@@ -1,9 +1,8 @@
-use Rattle.std.proofs.Common.{◌≡◌, ◌∙◌, List, [], ◌∷◌, ◌++◌, ap, sym}
-use Rattle.std.proofs.lemmas.List.{append-nil}
+use Rattle.std.proofs.Common.{◌∙◌, List, [], ◌∷◌, ap}
+use Rattle.std.proofs.lemmas.List.{append-nil, append_assoc}
 use Rattle.audit_model.specs.declared.step.StepRec.{StepRec}
 use Rattle.audit_model.specs.declared.step.Call.TheVariants.{GiveBack}
 use Rattle.audit_model.specs.declared.step.Reply.TheVariants.{Back}
-use Rattle.audit_run.specs.Holding.{AreTaken}
 use Rattle.audit_run.proofs.HoldLaws.{LeavesOut, Differs, all_taken, each_map, parted, return_leaves}
 use Rattle.audit_run.proofs.calls.give_all_back.Goals as goal
 
@@ -17,6 +16,7 @@ loop-taken-preserved c =
     let taken = rw c.in-Some.ensures.items at c.loop-taken.invariant.taken in
     let p = parted c.loop-taken.core.ground c.loop-taken.core.history c.pop.new.self.items c.in-Some.taken [] taken in
     let q = rw (append-nil c.pop.new.self.items) at p in
+    let done = c.loop-taken.invariant.returned.0 in
     let e : StepRec = record { actor = c.in-Some.taken.actor; call = GiveBack c.in-Some.taken.claim.number; reply = Back } in
     record {
       ground = c.give_back.ensures.ground ∙ c.loop-taken.invariant.ground;
@@ -24,5 +24,11 @@ loop-taken-preserved c =
       taken = rw (c.give_back.ensures.ground, c.give_back.ensures.history)
           (all_taken c.loop-taken.core.ground c.loop-taken.core.history e c.pop.new.self.items c.loop-taken.invariant.legal
           (each_map (Differs c.in-Some.taken.claim.number) (LeavesOut c.loop-taken.core.history e) (λ t d. return_leaves c.loop-taken.core.history c.in-Some.taken.actor c.in-Some.taken.claim.number t d) c.pop.new.self.items q.differ) q.rest);
-      returned = (e ∷ c.loop-taken.invariant.returned.0, (c.give_back.ensures.history ∙ ap (λ (k : List StepRec). e ∷ k) c.loop-taken.invariant.returned.1.0, (tt, c.loop-taken.invariant.returned.1.1)));
+      returned = (
+        c.in-Some.taken ∷ done,
+        (
+          c.loop-taken.invariant.returned.1.0 ∙ rw c.in-Some.ensures.items (append_assoc c.pop.new.self.items (c.in-Some.taken ∷ []) done),
+          c.give_back.ensures.history ∙ ap (λ (k : List StepRec). e ∷ k) c.loop-taken.invariant.returned.1.1,
+        ),
+      );
     }

@@ -1,4 +1,4 @@
-use Rattle.std.proofs.Common.{◌≡◌, ◌∙◌, refl}
+use Rattle.std.proofs.Common.{refl}
 use Rattle.audit_run.specs.declared.calls.Act.TheVariants as act
 use Rattle.audit_run.proofs.PlayLaws.{out_of, gave_back, played_none, unchanged_self}
 use Rattle.audit_run.proofs.calls.give_back.Goals as goal

@@ -1,4 +1,3 @@
-use Rattle.std.proofs.Common.{◌≡◌, ◌∙◌}
 use Rattle.audit_run.proofs.PlayLaws.{play_none, play_more}
 use Rattle.audit_run.proofs.calls.run.Goals as goal
 

@@ -1,4 +1,3 @@
-use Rattle.std.proofs.Common.{◌≡◌}
 use Rattle.audit_run.specs.Runs.{IsPlay}
 use Rattle.audit_run.proofs.calls.run.Given as goal
 

@@ -1,4 +1,3 @@
-use Rattle.std.proofs.Common.{◌≡◌, ◌∙◌}
 use Rattle.audit_run.proofs.PlayLaws.{took, idle}
 use Rattle.audit_run.proofs.calls.take.Goals as goal
 

@@ -1,4 +1,4 @@
-use Rattle.std.proofs.Common.{◌≡◌, ◌<◌, ◌∙◌, ◌∷◌, ◌++◌, length, suc, take, drop, sym, ap}
+use Rattle.std.proofs.Common.{◌≡◌, ◌∙◌, ◌∷◌, ◌++◌, suc, take, drop, ap}
 use Rattle.audit_run.specs.declared.hands.Taken.{Taken}
 use Rattle.audit_run.proofs.HoldLaws.{split_at_place}
 use Rattle.audit_run.proofs.hands.take_claim.Goals as goal

@@ -24,9 +24,8 @@ module _ {E : Type 0} where
   AreFree lock from (s ∷ seats) = IsFree lock from s × AreFree lock (from + 1) seats
 
 module _ {E : Type 0} (maker : E → ℕ) where
-  -- The history begins with that of the start and with all that each seat has seen. Since the start, the entries of each seat
-  -- are its own
-  -- list, and every entry is of one of the seats.
+  -- The history begins with that of the start and with all that each seat has seen. Since the start, the entries of each
+  -- seat are its own list, and every entry is of one of the seats.
   pub record HasAll (first log : List E) (seats : List (SeatView E)) : Type 0 where
     pub begun : StartsWith log first
     pub each : All (λ s. StartsWith log s.seen × (entries_of maker s.number (entries_since (length first) log) ≡ s.own)) seats

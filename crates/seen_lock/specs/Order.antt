@@ -1,6 +1,5 @@
 -- The rule of the lock's table: what holds between any two steps. Word 0 is the turn, word 1 the next ticket, word 2 the
--- length of the
--- history; slot 0 has the state. The numbers and lists of the views are those of the proofs alone: only the words wrap.
+-- length of the history; slot 0 has the state. The numbers in the views may be any: only the words wrap.
 use Rattle.std.specs.Prelude.{◌≡◌, ◌≢◌, ◌⊎◌, ℕ, ◌+◌, ◌%◌, ◌<◌, ◌≤◌, List, [], ◌∷◌, length, true, false, cond, Option, Some}
 use mathlib.Core.Option.{Option as Home, none, some}
 use lib.ListN.{get_elem?}
@@ -23,9 +22,8 @@ module _ {E : Type 0} where
   abbrev pub waiting : Known E → ℕ
   waiting v = cond v.waits 1 0
 
-  -- The numbers from the turn up to below the next ticket are held by the views, each by one: `who` has that number. There
-  -- are as many of
-  -- them as views that wait.
+  -- The numbers from the turn up to below the next ticket are held by the views, each by one, `who` of the number. There are as
+  -- many of them as views that wait.
   pub record Tickets (turn ticket : ℕ) (views : List (Known E)) : Type 0 where
     pub who : ℕ → ℕ
     pub count : turn + total waiting views ≡ ticket
@@ -91,9 +89,8 @@ module _ {E : Type 0} (maker : E → ℕ) where
       pub seen : StartsWith log v.seen
       pub own : since from id log ≡ v.own
 
-    -- The log, behind the entries of the start, is of the seats that were made; each seat knows a front of it and its own
-    -- entries; the
-    -- seat that makes others is the first, and knows how many there are.
+    -- Each entry of the log, behind those of the start, is of a seat that was made; each seat knows a front of the log and its
+    -- own entries; the seat that makes others is the first, and knows how many there are.
     pub record Logged : Type 0 where
       pub long : from ≤ length log
       pub below : AreMadeBelow maker (length views) (entries_since from log)
@@ -122,7 +119,8 @@ newcomer seen count = record {
 abbrev pub Counted : {E : Type 0} → ℕ → List (Known E) → Type 0
 Counted {E} seats views = (j : ℕ) (v : Known E) → get_elem? views j ≡ some v → v.live ≡ true → v.count ≡ seats
 
--- the rule, of a lock that began with the history `first` and is to have so many seats
+-- the rule, of a lock that began with the history `first` and is to have so many seats; `fits` says of a state that its ground is
+-- that of the start
 pub record Kept {S E : Type 0} (entries : S → List E) (maker : E → ℕ) (fits : S → Type 0) (first : List E) (seats : ℕ)
     (s : State (Option S) (Known E)) : Type 0 where
   pub turn : ℕ

@@ -38,7 +38,9 @@ pub(crate) type Place<S, E> = atomic_table::Seat<Option<S>, Known<E>>;
 /// A lock over a state, which its seats enter in turn.
 ///
 /// Contracts see which lock it is, the state that it began with, and how many seats it has. It may be
-/// shared by threads where the state may be sent to them.
+/// shared by threads where the state may be sent to them. `close` ends it and gives the state; where the
+/// state may be let go, so may the lock.
+#[derive(Drop)]
 pub struct SeenLock<S: Journaled> {
     pub(crate) table: Table<Option<S>, Known<S::Entry>, Origin<S>, Order, Global>,
     ghost sized: { (table.shared.table_id.words ≡ 3) × (table.shared.table_id.slots ≡ 1) },

@@ -1,5 +1,6 @@
 -- The rule of the lock's table: what holds between any two steps. Word 0 is the turn, word 1 the next ticket, word 2 the
--- length of the history; slot 0 has the state. The numbers in the views may be any: only the words wrap.
+-- length of the history; slot 0 has the state. The numbers in the views may be any: only the words wrap. The rule, `Kept`, says
+-- where the numbers are (`Tickets`), where the state is and what its history is (`Slotted`), and what each seat knows (`Logged`).
 use Rattle.std.specs.Prelude.{◌≡◌, ◌≢◌, ◌⊎◌, ℕ, ◌+◌, ◌%◌, ◌<◌, ◌≤◌, List, [], ◌∷◌, length, true, false, cond, Option, Some}
 use mathlib.Core.Option.{Option as Home, none, some}
 use lib.ListN.{get_elem?}
@@ -67,6 +68,7 @@ module _ {S E : Type 0} (entries : S → List E) (fits : S → Type 0) (turn : �
     pub held : Holds turn log view
     pub others : NoOther id views
 
+  -- the state is in one of these two places
   abbrev pub Slotted : Type 0
   Slotted = IsHome ⊎ IsOut
 

@@ -27,10 +27,12 @@ module _ {E : Type 0} where
   is_held (v ∷ []) = false
   is_held (v ∷ w ∷ vs) = true
 
+  -- what it has seen, where it isn't held
   abbrev pub seen_in : List (Known E) → List E
   seen_in [] = []
   seen_in (v ∷ vs) = v.seen
 
+  -- what it made, where it isn't held
   abbrev pub own_in : List (Known E) → List E
   own_in [] = []
   own_in (v ∷ vs) = v.own

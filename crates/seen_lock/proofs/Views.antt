@@ -1,14 +1,8 @@
 -- A seat as contracts see it, and what it knows.
 use Rattle.std.proofs.Common.{◌≡◌, ℕ, List, [], ◌∷◌, false, true≢false, sym, refl, ap, ◌∙◌}
-use mathlib.Core.Option.{some-injective}
-use lib.ListN.{get_elem?}
 use Rattle.seen_lock.specs.declared.known.Known.{Known}
 use Rattle.seen_lock.specs.Views.{LockId, SeatView, is_held, seen_in, own_in, seat_view}
 use Rattle.seen_lock.specs.Seats.{IsReady, IsWhole}
-
-module _ {A : Type 0} where
-  pub head_same : (a b : A) → a ∷ [] ≡ b ∷ [] → a ≡ b
-  head_same a b e = some-injective a b (ap (λ l. get_elem? l 0) e)
 
 module _ {E : Type 0} where
   -- a seat that isn't held knows something

@@ -1,9 +1,9 @@
 -- The topmost digit of a key and the others.
-use Rattle.std.proofs.Common.{◌≡◌, ℕ, suc, ◌+◌, ◌-◌, ◌*◌, ◌/◌, ◌%◌, ◌^◌, ◌<◌, ◌≤◌, bit_and, Fits, w8, refl, arith, ap, sym, ◌∙◌}
+use Rattle.std.proofs.Common.{◌≡◌, ℕ, suc, ◌+◌, ◌-◌, ◌*◌, ◌/◌, ◌%◌, ◌^◌, ◌<◌, ◌≤◌, bit_and, arith, ap, ◌∙◌}
 use Rattle.tree_map.specs.Ordered.{pow_next, times_le}
 use Rattle.std.proofs.Math.Nat.{div-add-mod, div-lt_iff_lt-mul, mod-eq_of_lt}
 use Rattle.std.proofs.Math.Pow.{pow-lt}
-use Rattle.std.proofs.lemmas.Nat.{and_mask, mod_below, pow-add, pow_pos}
+use Rattle.std.proofs.lemmas.Nat.{and_mask, mod_below, pow_pos}
 
 pub pow_positive : (w : ℕ) → 0 < 2 ^ w
 pow_positive w = pow_pos w

@@ -1,9 +1,9 @@
 -- What a level's calls keep and change, from what the calls below them keep and change.
-use Rattle.std.proofs.Common.{◌≡◌, ◌≢◌, ℕ, suc, ◌+◌, ◌-◌, ◌*◌, ◌^◌, ◌<◌, ◌≤◌, Bool, true, false, cond, ◌==◌, List, [], ◌∷◌, ◌++◌, length, Option, Some, None, is_some, refl, eq-eqb, arith, ap, sym, subst, ◌∙◌}
+use Rattle.std.proofs.Common.{◌≡◌, ◌≢◌, ℕ, ◌+◌, ◌*◌, ◌^◌, ◌<◌, Bool, true, false, cond, ◌==◌, List, [], ◌∷◌, ◌++◌, length, Option, Some, None, is_some, refl, eq-eqb, arith, ap, sym, subst, ◌∙◌}
 use Rattle.std.proofs.lemmas.Bool.{true≢false, ne_eqb}
 use Rattle.std.specs.Ordering.{nat_cmp, eq_by_cmp}
 use Rattle.std.specs.FinMap.{find, put}
-use Rattle.tree_map.specs.Pairs.{raised, joined, IsAscending, AreBelow, AllBranches, IsNode, pairs_of, Updates, cut}
+use Rattle.tree_map.specs.Pairs.{raised, joined, IsAscending, AreBelow, IsNode, pairs_of, Updates, cut}
 use Rattle.tree_map.specs.Ordered.{rises_of, below_size}
 use Rattle.tree_map.proofs.Joining.{tied, find_joined, updates_joined}
 use Rattle.tree_map.proofs.Nodes.{updates_put, ascending_put, below_put, all_put, updates_cut, ascending_cut, below_cut, all_cut, all_found}

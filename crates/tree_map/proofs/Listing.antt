@@ -1,9 +1,9 @@
 -- Listing the pairs of a node, branch by branch.
-use Rattle.std.proofs.Common.{◌≡◌, ℕ, suc, zero, ◌+◌, ◌*◌, ◌^◌, ◌<◌, ◌≤◌, List, [], ◌∷◌, ◌++◌, length, get_or, take, map, Option, Some, None, refl, arith, ap, sym, subst, ◌∙◌, append_assoc, add-one}
+use Rattle.std.proofs.Common.{◌≡◌, ℕ, suc, zero, ◌+◌, ◌*◌, ◌^◌, ◌<◌, ◌≤◌, List, [], ◌∷◌, ◌++◌, length, get_or, take, map, Option, Some, refl, arith, ap, sym, subst, ◌∙◌, append_assoc}
 use Rattle.std.specs.Borrow.{Bor}
 use Rattle.std.specs.Arc.{arc_value}
 use Rattle.std.specs.declared.sync.Arc.{Arc}
-use Rattle.tree_map.specs.Pairs.{raised, joined, AreBelow, AllBranches, IsNode}
+use Rattle.tree_map.specs.Pairs.{raised, joined, AreBelow, AllBranches}
 use Rattle.tree_map.specs.Roots.{pairs_in, seen}
 
 module _ {V : Type 0} where

@@ -1,8 +1,8 @@
 -- A finite map from the list of its pairs.
-use Rattle.std.proofs.Common.{◌≡◌, ℕ, ◌<◌, ◌≤◌, ◌^◌, Bool, cond, List, [], Option, Some, None, refl, arith, ap, sym, ◌∙◌, inl, inr}
+use Rattle.std.proofs.Common.{◌≡◌, ℕ, ◌≤◌, ◌^◌, cond, List, [], Option, Some, None, ap, sym, ◌∙◌, inl, inr}
 use Rattle.std.specs.Cmp.{nat_cmp_total}
 use Rattle.std.specs.Ordering.{nat_cmp, eq_by_cmp}
-use Rattle.std.specs.FinMap.{FinMap, find, get, insert, remove, entries, empty, from_sorted, get-from_sorted, get-empty, get-insert, get-remove, entries-from_sorted, same_map, nat_cmp-IsAntisymmetric}
+use Rattle.std.specs.FinMap.{find, get, insert, remove, empty, from_sorted, get-from_sorted, get-empty, get-insert, get-remove, same_map, nat_cmp-IsAntisymmetric}
 use Rattle.tree_map.specs.Pairs.{IsAscending, AreBelow, Updates}
 use Rattle.std.specs.Arc.{arc_value}
 use Rattle.std.specs.declared.sync.Arc.{Arc}

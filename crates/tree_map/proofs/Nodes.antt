@@ -1,12 +1,11 @@
 -- Setting and cutting branches of a node.
-use Rattle.std.proofs.Common.{◌≡◌, ◌≢◌, ℕ, suc, zero, ◌+◌, ◌*◌, ◌<◌, ◌≤◌, ◌⊎◌, Bool, true, false, not, cond, T, ◌==◌, nat_lt, List, [], ◌∷◌, ◌++◌, Option, Some, None, refl, arith, ap, sym, subst, ◌∙◌, inl, inr}
-use Rattle.std.specs.declared.cmp.Ordering.{Ordering}
+use Rattle.std.proofs.Common.{◌≡◌, ℕ, ◌<◌, Bool, true, false, not, cond, List, [], ◌∷◌, Option, Some, None, refl, ap, sym, subst, ◌∙◌, inl, inr}
 use Rattle.std.specs.declared.cmp.Ordering.TheVariants.{Less, Equal, Greater}
 use Rattle.std.specs.Cmp.{nat_cmp_total}
 use Rattle.std.specs.Ordering.{nat_cmp, eq_by_cmp}
-use Rattle.std.specs.FinMap.{find, put, is_sorted, nat_cmp-IsAntisymmetric}
-use Rattle.std.specs.FinMap.Entries.{where_key, by_order, find-put, is_sorted-put, find-where_key, is_sorted-where_key}
-use Rattle.tree_map.specs.Pairs.{raised, joined, IsAscending, AreBelow, AllBranches, pairs_of, Updates, cut}
+use Rattle.std.specs.FinMap.{find, put, nat_cmp-IsAntisymmetric}
+use Rattle.std.specs.FinMap.Entries.{by_order, find-put, is_sorted-put, find-where_key, is_sorted-where_key}
+use Rattle.tree_map.specs.Pairs.{IsAscending, AreBelow, AllBranches, Updates, cut}
 use Rattle.tree_map.proofs.Joining.{tied, apart, same_or_not}
 
 swapped : (d q : ℕ) → eq_by_cmp nat_cmp d q ≡ eq_by_cmp nat_cmp q d

@@ -1,15 +1,14 @@
 -- The place of a digit in a node.
-use Rattle.std.proofs.Common.{◌≡◌, ◌≢◌, ℕ, suc, zero, ◌+◌, ◌<◌, ◌≤◌, ◌⊎◌, Bool, true, false, not, cond, T, nat_lt, List, [], ◌∷◌, length, get_or, insert, Option, Some, None, is_some, refl, arith, ap, sym, subst, ◌∙◌, inl, inr}
-use Rattle.std.specs.List.{prefix_len, remove}
+use Rattle.std.proofs.Common.{◌≡◌, ◌≢◌, ℕ, suc, zero, ◌+◌, ◌<◌, ◌≤◌, ◌⊎◌, Bool, true, false, not, cond, nat_lt, List, [], ◌∷◌, length, get_or, insert, Some, None, is_some, refl, arith, ap, sym, subst, ◌∙◌, inl, inr}
+use Rattle.std.specs.List.{remove}
 use Rattle.std.specs.List.Sorted.{IsPartitionedBy, IsPartitionPoint}
 use Rattle.std.proofs.Math.ListN.{set}
-use Rattle.std.proofs.lemmas.Bool.{cases_lt, lt-ltb, le-ltb, ltb-true, ltb-false, true≢false}
-use Rattle.std.specs.declared.cmp.Ordering.{Ordering}
+use Rattle.std.proofs.lemmas.Bool.{cases_lt, lt-ltb, le-ltb, ltb-true, true≢false}
 use Rattle.std.specs.declared.cmp.Ordering.TheVariants.{Less, Equal, Greater}
 use Rattle.std.specs.Cmp.{nat_cmp_is}
-use Rattle.std.specs.Ordering.{nat_cmp, eq_by_cmp}
+use Rattle.std.specs.Ordering.{nat_cmp}
 use Rattle.std.specs.FinMap.{find, put}
-use Rattle.std.specs.FinMap.Entries.{where_key, by_order}
+use Rattle.std.specs.FinMap.Entries.{by_order}
 use Rattle.tree_map.specs.Pairs.{IsAscending, cut}
 use Rattle.tree_map.specs.Places.{place_of}
 use Rattle.tree_map.specs.Ordered.{AreAbove, Rises, rises_of}

@@ -1,4 +1,4 @@
-use Rattle.std.proofs.Common.{◌≡◌, ◌≢◌, ◌∙◌, Some, sym, ap, rules}
+use Rattle.std.proofs.Common.{◌∙◌, Some, sym, ap, rules}
 use Rattle.tree_map.proofs.Places.{read_same, read_other, read_past}
 use Rattle.tree_map.proofs.node.below_digit.Goals as goal
 

@@ -1,4 +1,4 @@
-use Rattle.std.proofs.Common.{arith, ◌≡◌, ◌<◌, ◌∙◌, length}
+use Rattle.std.proofs.Common.{arith, ◌<◌, ◌∙◌, length}
 use Rattle.tree_map.specs.Pairs.{IsAscending}
 use Rattle.tree_map.proofs.Places.{at_found, remove_at, none_cut}
 use Rattle.tree_map.proofs.node.cut_branch.Goals as goal

@@ -1,4 +1,4 @@
-use Rattle.std.proofs.Common.{◌≡◌, ◌≢◌, ◌∙◌, sym, ap, is_some}
+use Rattle.std.proofs.Common.{◌∙◌, sym, ap, is_some}
 use Rattle.tree_map.proofs.Places.{read_same, read_other, read_past}
 use Rattle.tree_map.proofs.node.find_digit.Goals as goal
 

@@ -1,4 +1,4 @@
-use Rattle.std.proofs.Common.{arith, ◌≡◌, ◌<◌, ◌≤◌, ◌∙◌, length}
+use Rattle.std.proofs.Common.{arith, ◌<◌, ◌≤◌, ◌∙◌, length}
 use Rattle.std.specs.Arc.{arc_value}
 use Rattle.tree_map.specs.Pairs.{IsAscending}
 use Rattle.tree_map.proofs.Places.{at_found, at_missing, set_at, insert_at}

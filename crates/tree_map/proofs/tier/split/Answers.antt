@@ -1,4 +1,4 @@
-use Rattle.std.proofs.Common.{arith, ◌≡◌, ◌<◌, ◌+◌, ◌*◌, ◌^◌, ◌/◌}
+use Rattle.std.proofs.Common.{arith, ◌<◌, ◌^◌, ◌/◌}
 use Rattle.tree_map.proofs.Digits.{digit_below, parts, rest_below}
 use Rattle.tree_map.proofs.tier.split.Goals as goal
 

@@ -1,4 +1,4 @@
-use Rattle.std.proofs.Common.{arith, ◌≡◌, ◌<◌, ◌≤◌, ◌+◌, ◌*◌, ◌^◌, ◌%◌}
+use Rattle.std.proofs.Common.{arith, ◌≡◌, ◌≤◌, ◌+◌, ◌*◌, ◌^◌, ◌%◌}
 use Rattle.tree_map.proofs.Digits.{moved_up, start_is}
 use Rattle.tree_map.proofs.tier.start.Goals as goal
 

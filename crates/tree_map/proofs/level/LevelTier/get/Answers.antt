@@ -1,4 +1,4 @@
-use Rattle.std.proofs.Common.{◌≡◌, ◌-◌, ◌∙◌, ap, arith}
+use Rattle.std.proofs.Common.{◌-◌, ◌∙◌, ap, arith}
 use Rattle.std.specs.Option.{option_copied}
 use Rattle.tree_map.proofs.Levels.{get_found, get_missing, whole_found}
 use Rattle.tree_map.proofs.level.LevelTier.get.Goals as goal

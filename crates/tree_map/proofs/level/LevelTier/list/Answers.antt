@@ -1,4 +1,4 @@
-use Rattle.std.proofs.Common.{◌≡◌, ◌<◌, ◌++◌, ◌+◌, ◌-◌, ◌*◌, ◌^◌, ◌∙◌, map, ap, sym, subst, arith}
+use Rattle.std.proofs.Common.{◌<◌, ◌++◌, ◌-◌, ◌^◌, ◌∙◌, map, ap, sym, subst, arith}
 use Rattle.tree_map.specs.Pairs.{raised, joined, AreBelow, AllBranches}
 use Rattle.tree_map.specs.Roots.{seen}
 use Rattle.tree_map.proofs.Listing.{digit_at, whole_at, first_is, list_branch, took_all}

@@ -1,6 +1,5 @@
-use Rattle.std.proofs.Common.{◌≡◌, ◌-◌, arith}
+use Rattle.std.proofs.Common.{◌-◌, arith}
 use Rattle.std.specs.Arc.{arc_value}
-use Rattle.tree_map.specs.Pairs.{joined, IsNode, Updates}
 use Rattle.tree_map.proofs.Levels.{put_level}
 use Rattle.tree_map.proofs.level.LevelTier.put.Goals as goal
 

@@ -1,4 +1,4 @@
-use Rattle.std.proofs.Common.{◌∙◌, ap, arith}
+use Rattle.std.proofs.Common.{◌∙◌, ap}
 use Rattle.tree_map.specs.Pairs.{cut}
 use Rattle.tree_map.proofs.Levels.{lowest_cut, cut_updates_lowest}
 use Rattle.tree_map.proofs.lowest.LowestTier.without.Goals as goal

@@ -1,4 +1,4 @@
-use Rattle.std.proofs.Common.{◌≡◌, ◌^◌, ◌∙◌, ap}
+use Rattle.std.proofs.Common.{◌^◌, ◌∙◌, ap}
 use Rattle.std.specs.FinMap as map
 use Rattle.tree_map.specs.Roots.{pairs_in}
 use Rattle.tree_map.specs.Top.{top}

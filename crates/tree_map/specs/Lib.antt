@@ -1,0 +1,5 @@
+pub mod Ordered
+pub mod Pairs
+pub mod Places
+pub mod Roots
+pub mod Top

@@ -37,11 +37,11 @@ struct Room {
 /// say, has a mark that tells whether the text so far can end with it, and a character makes all new
 /// marks of the old ones in one pass. All ways are followed at once and none is gone back, counted
 /// repeats are plain copies, and no automaton is built, so neither the text nor the form of the
-/// pattern decides about the time. For weight `w`, a tree `d` deep with `p` parts of sets, and a text
-/// of `n` characters it takes `O(d d w)` time to begin with and `O(d w + p)` for each character: a pass
-/// has one step for each mark and at most four further ones for each alternation and each repeat around
-/// it, and each set is asked once for a character. Memory is `O(d w + p)`, whatever the text. The
-/// recursion is as deep as the tree, and parts without a single character among them take no steps.
+/// pattern decides about the time. For a tree of weight `w` that is `d` deep and has `p` nodes and parts
+/// of sets it takes `O(d d w + p)` time to begin with and `O(d w + p)` for each character of the text: a
+/// pass has one step for each mark and at most four further ones for each alternation and each repeat
+/// around it, and each set is asked once for a character. Memory is `O(d w + p)`, whatever the text. The
+/// recursion is as deep as the tree. A part that matches the empty text alone takes no steps.
 pub fn matches(alloc: Global, tree: &Tree, text: &str) -> Result<bool, Memory>
     ensures { IfOk result (λ answer. IsTrue answer ↔ Matches tree.now (chars text.now)) }
 {

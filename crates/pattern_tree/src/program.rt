@@ -45,8 +45,8 @@ struct Sides {
 }
 
 /// The program of the pattern, and of which sets: `sets` is the number of those that stand before it,
-/// and then of those up to its end. The recursion is as deep as the pattern. `O(d d w)` for depth `d`
-/// and weight `w`.
+/// and then of those up to its end. The recursion is as deep as the pattern. `O(d d w + p)` for
+/// depth `d`, weight `w` and size `p`.
 #[cycle(compile)]
 pub(crate) fn compile(alloc: Global, tree: &Tree, sets: &mut usize) -> Result<Part, Memory>
     ensures { IfOk result (λ part. spec.program tree.now sets.old ≡ (part, sets.new)) }

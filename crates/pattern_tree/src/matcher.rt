@@ -41,7 +41,8 @@ struct Room {
 /// of sets it takes `O(d d w + p)` time to begin with and `O(d w + p)` for each character of the text: a
 /// pass has one step for each mark and at most four further ones for each alternation and each repeat
 /// around it, and each set is asked once for a character. Memory is `O(d w + p)`, whatever the text. The
-/// recursion is as deep as the tree. A part that matches the empty text alone takes no steps.
+/// recursion is as deep as the tree. A part with no set in it takes no steps, unless an alternation
+/// without sides is within.
 pub fn matches(alloc: Global, tree: &Tree, text: &str) -> Result<bool, Memory>
     ensures { IfOk result (λ answer. IsTrue answer ↔ Matches tree.now (chars text.now)) }
 {

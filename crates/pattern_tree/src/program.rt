@@ -27,7 +27,7 @@ pub(crate) enum Op {
 /// The program of a pattern or of a part of it.
 #[derive(Debug, Drop)]
 pub(crate) struct Part {
-    /// The steps; none where the pattern weighs nothing and matches the empty text alone.
+    /// The steps; where there are none, it matches the empty text alone.
     pub(crate) ops: Items<Op>,
     /// Whether it matches the empty text.
     pub(crate) empty: bool,

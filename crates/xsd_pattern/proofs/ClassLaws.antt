@@ -206,3 +206,15 @@ escape_complete e c t is = rw (escaped_no_class e c is, is) refl
 pub class_escape_complete : (e : ℕ) (k : Class) (t : Text) → class_of e ≡ Some k → escape (e ∷ t) ≡ Ok (set false (part_of.Class k ∷ []), t)
 unfolding escape
 class_escape_complete e k t is = rw is refl
+
+-- ---- a turn that goes on leaves less
+
+turned_shorter : (s : Parts) (t : Text) (goes : Bool) (r : Parts) (u : Text) → goes ≡ true → Turned s t goes r u → length u < length t
+turned_shorter s t _ _ u goes (Turned.ends v some is) = absurd cc
+turned_shorter s t _ _ u goes (Turned.last v some is) = absurd cc
+turned_shorter s t _ _ u goes (Turned.both a v m) = absurd cc
+turned_shorter s t _ _ u goes (Turned.first v none is) = omega (arith, ap length is)
+turned_shorter s t _ _ u goes (Turned.part p v is) = part_shorter is
+
+pub class_shortens : (s : Parts) (t : Text) (r : Parts) (u : Text) → class_turn s t ≡ Ok ((true, r), u) → length u < length t
+class_shortens s t r u e = turned_shorter s t true r u refl (turn_is s t ((true, r), u) e)

@@ -7,3 +7,4 @@ pub mod ClassLaws
 pub mod PartLaws
 pub mod PartComplete
 pub mod ReadLaws
+pub mod TurnLaws

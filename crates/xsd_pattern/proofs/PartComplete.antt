@@ -76,7 +76,7 @@ mutual
   atom_shorter (IsAtom.single d t s u is) = set_shorter is
   atom_shorter (IsAtom.group d t parts others u inside) = omega (arith, choice_shorter inside)
 
-  piece_shorter : {d : ℕ} {t : Text} {x : Tree} {u : Text} → IsPiece d t x u → length u < length t
+  pub piece_shorter : {d : ℕ} {t : Text} {x : Tree} {u : Text} → IsPiece d t x u → length u < length t
   piece_shorter (IsPiece.once d t x u a) = atom_shorter a
   piece_shorter (IsPiece.repeated d t x r n u a times) = omega (arith, atom_shorter a, times_shorter times)
 

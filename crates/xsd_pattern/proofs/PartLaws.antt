@@ -19,7 +19,7 @@ use Rattle.xsd_pattern.specs.Grammar.{IsSet, IsAtom, IsPiece, IsChoice}
 use Rattle.xsd_pattern.proofs.RepeatLaws.{Here, repeat_sound}
 use Rattle.xsd_pattern.proofs.ClassLaws.{class_sound, escape_sound}
 
-abbrev One : Type 0
+abbrev pub One : Type 0
 One = Tree × Text
 
 as_atom : (d : ℕ) (t : Text) (x y : One) → IsAtom d t x.0 x.1 → x ≡ y → IsAtom d t y.0 y.1
@@ -35,7 +35,7 @@ set_from d t r x found e =
 abbrev pub IsSound : ℕ → Reader → Type 0
 IsSound d r = (t : Text) (s : Sides) (u : Text) → r t ≡ Ok (s, u) → (parts : List Tree) × (others : List Tree) × IsChoice d t parts others u × (all_sides s ≡ tree_of.Sequence parts ∷ others)
 
-abbrev SoundInside : ℕ → Option Reader → Type 0
+abbrev pub SoundInside : ℕ → Option Reader → Type 0
 SoundInside d None = Unit {0}
 SoundInside d (Some r) = (p : ℕ) × (d ≡ suc p) × IsSound p r
 
@@ -97,10 +97,10 @@ repeated_sound d t x y a e =
 
 -- ---- turns
 
-abbrev Turn : Type 0
+abbrev pub Turn : Type 0
 Turn = (Bool × Sides) × Text
 
-data Taken (d : ℕ) (s : Sides) (t : Text) : Bool → Sides → Text → Type 0 where
+pub data Taken (d : ℕ) (s : Sides) (t : Text) : Bool → Sides → Text → Type 0 where
   ends : Taken d s t false s t
   bar : (u : Text) → t ≡ 124 ∷ u → Taken d s t true (with_bar s) u
   piece : (x : Tree) (u : Text) → IsPiece d t x u → Taken d s t true (with_part s x) u
@@ -108,7 +108,7 @@ data Taken (d : ℕ) (s : Sides) (t : Text) : Bool → Sides → Text → Type 0
 as_taken : (d : ℕ) (s : Sides) (t : Text) (x y : Turn) → Taken d s t x.0.0 x.0.1 x.1 → x ≡ y → Taken d s t y.0.0 y.0.1 y.1
 as_taken d s t x y is e = subst (λ (z : Turn). Taken d s t z.0.0 z.0.1 z.1) e is
 
-turn_is : (d : ℕ) (inner : Option Reader) (sound : SoundInside d inner) (s : Sides) (t : Text) (y : Turn) → sides_turn inner s t ≡ Ok y → Taken d s t y.0.0 y.0.1 y.1
+pub turn_is : (d : ℕ) (inner : Option Reader) (sound : SoundInside d inner) (s : Sides) (t : Text) (y : Turn) → sides_turn inner s t ≡ Ok y → Taken d s t y.0.0 y.0.1 y.1
 unfolding sides_turn
 turn_is d inner sound s [] y e = as_taken d s [] ((false, s), []) y Taken.ends (ok_is {E = Refused PatternCause} ((false, s), []) y e)
 turn_is d inner sound s (c ∷ t) y e =

@@ -12,5 +12,5 @@ mod sides;
 mod weight;
 
 pub use fault::{PatternCause, PatternFault};
-pub use laws::one_tree;
+pub use laws::{one_tree, turns_shorten};
 pub use pattern::Pattern;

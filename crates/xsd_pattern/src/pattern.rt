@@ -121,10 +121,10 @@ fn answered(alloc: Global, text: &str) -> Result<Pattern, Refusal<PatternFault>>
 }
 
 impl Pattern {
-    /// Reads a pattern: literals, escapes, classes, repeats, groups and `|`, as the specifications of this product use them (XML
-    /// Schema Part 2, appendix F, in part). A fault is the first from the left, with the number of its character, from 1; a text of
-    /// more than 1,000 characters, and after all others a weight over 100,000, are faults at 0. `O(n)` in the length of the text;
-    /// its recursion is as deep as groups nest, at most 32.
+    /// Reads a pattern: literals, escapes, classes, repeats, groups and `|` (XML Schema Part 2, appendix F, in the part that is
+    /// built here). The fault is the first one from the left, at the number of its character, from 1, or at one more than there
+    /// are characters where the text ends too early. More than 1,000 characters come before all others, and a weight over 100,000
+    /// behind them; both are at 0. `O(n)` in the length of the text; its recursion is as deep as groups nest, at most 32.
     pub fn read(alloc: Global, text: &str) -> Result<Pattern, Refusal<PatternFault>>
         // What is read is the text's tree.
         ensures found { IfOk result (λ pattern. Parses (chars text.now) pattern) }

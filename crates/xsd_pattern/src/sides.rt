@@ -17,6 +17,7 @@ pub(crate) struct Sides {
 impl Sides {
     ghost use Rattle.xsd_pattern.specs.Parts.{no_sides, with_bar, choice};
 
+    /// One side, without parts.
     pub fn new(alloc: Global) -> Sides
         ensures { result ≡ no_sides }
     {

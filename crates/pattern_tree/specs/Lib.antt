@@ -1,2 +1,4 @@
+pub mod Machine
 pub mod Matching
+pub mod Programs
 pub mod Trees

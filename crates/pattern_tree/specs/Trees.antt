@@ -1,5 +1,5 @@
 -- Patterns as trees: which characters a set holds, and how much a pattern weighs.
-use Rattle.std.specs.Prelude.{ℕ, ◌*◌, max, unwrap_or, Bool, true, false, not, ◌&&◌, ◌||◌, ◌==◌, nat_le, List, sum, if◌then◌else◌}
+use Rattle.std.specs.Prelude.{ℕ, ◌*◌, max, map, unwrap_or, Bool, true, false, not, ◌&&◌, ◌||◌, ◌==◌, nat_le, List, [], ◌∷◌, ◌++◌, sum, if◌then◌else◌}
 use Rattle.std.specs.List.{list_any}
 use Rattle.pattern_tree.specs.declared.tree.Class.{Class}
 use Rattle.pattern_tree.specs.declared.tree.Class.TheVariants as class
@@ -28,7 +28,7 @@ abbrev pub is_space : ℕ → Bool
 is_space c = c == 9 || c == 10 || c == 13 || c == 32
 
 -- the character is of the class
-abbrev pub is_of_class : Class → ℕ → Bool
+unfoldable pub is_of_class : Class → ℕ → Bool
 is_of_class class.Digit c = is_digit c
 is_of_class class.Word c = is_word c
 is_of_class class.Space c = is_space c
@@ -37,7 +37,7 @@ is_of_class class.NotWord c = not (is_word c)
 is_of_class class.NotSpace c = not (is_space c)
 
 -- the character is in the part of a set
-abbrev pub is_in_part : ℕ → Part → Bool
+unfoldable pub is_in_part : ℕ → Part → Bool
 is_in_part c (part.Range first last) = is_within first last c
 is_in_part c (part.Class class) = is_of_class class c
 
@@ -69,3 +69,21 @@ weight_at (Tree-F.Repeat part times) = part * repeat_weight times
 -- it say.
 abbrev pub weight : Tree → ℕ
 weight = fold_tree weight_at
+
+abbrev pub one_after_another : List (List Set) → List Set
+one_after_another [] = []
+one_after_another (sets ∷ others) = sets ++ one_after_another others
+
+-- the sets of a pattern's single-character parts, from left to right
+abbrev pub sets_at : Level (List Set) → List Set
+sets_at (Tree-F.Set set) = set ∷ []
+sets_at (Tree-F.Sequence parts) = one_after_another parts
+sets_at (Tree-F.Choice sides) = one_after_another sides
+sets_at (Tree-F.Repeat part times) = part
+
+abbrev pub sets_of : Tree → List Set
+sets_of = fold_tree sets_at
+
+-- what each of the sets says of the character
+abbrev pub hits_in : List Set → ℕ → List Bool
+hits_in sets c = map (λ set. is_of set c) sets

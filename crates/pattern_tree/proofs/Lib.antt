@@ -1,0 +1,15 @@
+pub mod Booleans
+pub mod CodeLemmas
+pub mod Expressions
+pub mod Finals
+pub mod Joins
+pub mod Making
+pub mod Outcomes
+pub mod Powers
+pub mod Repeating
+pub mod RunLemmas
+pub mod Runs
+pub mod Shifts
+pub mod Siding
+pub mod Spelling
+pub mod Telling

@@ -1,0 +1,96 @@
+ghost use Rattle.std.specs.Prelude.{◌≡◌, ◌↔◌, IfOk, OnOk, IsTrue, chars, length, vec_len};
+ghost use Rattle.pattern_tree.specs.Matching.{Matches};
+ghost use Rattle.pattern_tree.specs.Trees.{sets_of, hits_in};
+ghost use Rattle.pattern_tree.specs.Machine.{reached_of, taken, begun, is_matched};
+
+use crate::machine::{Kept, pass};
+use crate::program::{Op, Part, compile};
+use crate::set::push_hits;
+use crate::tree::Tree;
+use ifc_base::Memory;
+use std::alloc::Global;
+
+/// What is known behind some of the text's characters.
+#[derive(Drop)]
+pub(crate) struct Progress {
+    /// The marks of the steps.
+    pub(crate) marks: Vec<bool>,
+    /// Whether a text may begin here.
+    pub(crate) begins: bool,
+    /// Whether the text so far is matched.
+    pub(crate) ends: bool,
+}
+
+/// Room for one character's work, used again for the next.
+#[derive(Drop)]
+struct Room {
+    /// What each set says of the character.
+    hits: Vec<bool>,
+    /// What is kept while alternations and repeats are gone through.
+    kept: Vec<Kept>,
+}
+
+/// Whether the pattern matches the text, as a whole; the only refusal is want of memory.
+///
+/// The method is that of marked regular expressions (S. Fischer, F. Huch, T. Wilke, A Play on Regular
+/// Expressions, 2010): each single-character part of the pattern, as often as the repeats around it
+/// say, has a mark that tells whether the text so far can end with it, and a character makes all new
+/// marks of the old ones in one pass. All ways are followed at once and none is gone back, so the text
+/// decides nothing about the time. For weight `w`, patterns nested `d` deep and a text of `n`
+/// characters it takes `O(d w)` time to begin with and `O(d w + p)` for each character, `p` being the
+/// size of the pattern, in which each set is asked once for each character; the steps that are no
+/// marks stay below a few for each mark and each level around it. Memory is `O(d w + p)`. The
+/// recursion is as deep as the pattern, and parts that weigh nothing take no steps.
+pub fn matches(alloc: Global, tree: &Tree, text: &str) -> Result<bool, Memory>
+    ensures { IfOk result (λ answer. IsTrue answer ↔ Matches tree.now (chars text.now)) }
+{
+    let mut sets = 0;
+    let part = compile(alloc, tree, &mut sets)?;
+    runs_to_end(alloc, tree, &part, text)
+}
+
+/// Whether the program of the pattern matches the text.
+fn runs_to_end(alloc: Global, tree: &Tree, part: &Part, text: &str) -> Result<bool, Memory>
+    ensures { IfOk result (λ answer. answer ≡ is_matched (sets_of tree.now) part.now (chars text.now)) }
+{
+    let ops = part.ops.as_slice();
+    let mut progress = Progress {
+        marks: vec![in alloc; false; ops.len()]?,
+        begins: true,
+        ends: part.empty,
+    };
+    let mut room = Room {
+        hits: Vec::new(alloc),
+        kept: Vec::new(alloc),
+    };
+    for c in text.chars() {
+        take(tree, ops, &mut progress, &mut room, c)?;
+    }
+    Ok(progress.ends)
+}
+
+/// Takes one character.
+fn take(
+    tree: &Tree,
+    ops: &[Op],
+    progress: &mut Progress,
+    room: &mut Room,
+    c: char,
+) -> Result<(), Memory>
+    requires { vec_len progress.old.marks ≡ length ops.now }
+    ensures size { vec_len progress.new.marks ≡ length ops.now }
+    ensures reached { OnOk result (reached_of progress.new ≡ taken (hits_in (sets_of tree.now)) ops.now (reached_of progress.old) c) }
+{
+    room.hits.clear();
+    push_hits(tree, c, &mut room.hits)?;
+    let wire = pass(
+        ops,
+        room.hits.as_slice(),
+        progress.marks.as_mut_slice(),
+        progress.begins,
+        &mut room.kept,
+    )?;
+    progress.begins = false;
+    progress.ends = wire.next;
+    Ok(())
+}

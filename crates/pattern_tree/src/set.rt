@@ -1,0 +1,97 @@
+ghost use Rattle.std.specs.Prelude.{◌≡◌, map, ◌++◌, OnOk};
+ghost use Rattle.std.specs.List.{list_any};
+ghost use Rattle.pattern_tree.specs.Trees.{is_digit, is_word, is_space, is_of_class, is_in_part, is_of, sets_of, one_after_another, hits_in};
+
+use crate::tree::{Class, Part, Set, Tree};
+use ifc_base::Memory;
+
+/// A digit, 0 to 9.
+fn is_digit(c: char) -> bool
+    ensures { result ≡ is_digit c }
+{
+    matches!(c, '0'..='9')
+}
+
+/// A letter, a digit or a sign of `\w`.
+fn is_word(c: char) -> bool
+    ensures { result ≡ is_word c }
+{
+    matches!(c, '0'..='9' | 'A'..='Z' | 'a'..='z' | '$' | '+' | '<'..='>' | '^' | '`' | '|' | '~')
+}
+
+/// A tab, a line feed, a carriage return or a space.
+fn is_space(c: char) -> bool
+    ensures { result ≡ is_space c }
+{
+    matches!(c, '\t' | '\n' | '\r' | ' ')
+}
+
+/// Whether the character is of the class. `O(1)`.
+#[tactic(auto, unfolding(crate::specs::Trees::is_of_class))]
+fn is_of_class(class: Class, c: char) -> bool
+    ensures { result ≡ is_of_class class c }
+{
+    match class {
+        Class::Digit => is_digit(c),
+        Class::Word => is_word(c),
+        Class::Space => is_space(c),
+        Class::NotDigit => !is_digit(c),
+        Class::NotWord => !is_word(c),
+        Class::NotSpace => !is_space(c),
+    }
+}
+
+/// Whether the character is in the part. `O(1)`.
+#[tactic(auto, unfolding(crate::specs::Trees::is_in_part))]
+fn is_in_part(part: Part, c: char) -> bool
+    ensures { result ≡ is_in_part c part }
+{
+    match part {
+        Part::Range(first, last) => first <= c && c <= last,
+        Part::Class(class) => is_of_class(class, c),
+    }
+}
+
+/// Whether the character is in one of the parts.
+fn is_in_any(parts: &[Part], c: char) -> bool
+    ensures { result ≡ list_any (is_in_part c) parts.now }
+{
+    parts.iter().any(|part| is_in_part(*part, c))
+}
+
+/// Whether the set holds the character. `O(n)` in the number of its parts.
+fn is_of(set: &Set, c: char) -> bool
+    ensures { result ≡ is_of set.now c }
+{
+    let found = is_in_any(set.parts.as_slice(), c);
+    if set.negated { !found } else { found }
+}
+
+/// Appends, for each set of the pattern from left to right, whether it holds the character. `O(n)` in
+/// the size of the pattern; its recursion is as deep as the pattern.
+#[cycle(hits)]
+pub(crate) fn push_hits(tree: &Tree, c: char, hits: &mut Vec<bool>) -> Result<(), Memory>
+    ensures { OnOk result (hits.new.items ≡ hits.old.items ++ hits_in (sets_of tree.now) c) }
+{
+    match tree {
+        Tree::Set(set) => {
+            hits.push(is_of(set, c))?;
+            Ok(())
+        }
+        Tree::Sequence(parts) => push_all_hits(parts.as_slice(), c, hits),
+        Tree::Choice(sides) => push_all_hits(sides.as_slice(), c, hits),
+        Tree::Repeat(part, _) => push_hits(part.get(), c, hits),
+    }
+}
+
+/// Ditto for the sets of the patterns one after another.
+#[cycle(hits)]
+#[tactic(auto, using(crate::proofs::CodeLemmas::hits_more))]
+fn push_all_hits(trees: &[Tree], c: char, hits: &mut Vec<bool>) -> Result<(), Memory>
+    ensures { OnOk result (hits.new.items ≡ hits.old.items ++ hits_in (one_after_another (map sets_of trees.now)) c) }
+{
+    for tree in trees {
+        push_hits(tree, c, hits)?;
+    }
+    Ok(())
+}

@@ -1,5 +1,5 @@
 -- A turn of reading sides that goes on leaves less.
-use Rattle.std.proofs.Common.{◌≡◌, ℕ, zero, suc, ◌<◌, Bool, true, false, length, Option, Ok, refl, ap, arith}
+use Rattle.std.proofs.Common.{◌≡◌, ℕ, zero, suc, ◌<◌, Bool, true, length, Ok, refl, ap, arith}
 use Rattle.reading.specs.Reading.{Text}
 use Rattle.xsd_pattern.specs.declared.sides.Sides.{Sides}
 use Rattle.xsd_pattern.specs.Parts.{sides_turn, below}

@@ -13,7 +13,8 @@ is_reserved c =
 unfoldable pub is_escapable : ℕ → Bool
 is_escapable c = c == 45 || c == 94 || is_reserved c
 
--- The character that a backslash and this letter stand for, if for one: line feed, carriage return, tabulator, or the letter itself.
+-- The character that a backslash and this letter stand for, if for one: line feed, carriage return, tabulator, or the letter
+-- itself.
 unfoldable pub escaped : ℕ → Option ℕ
 escaped e =
     if e == 110 then Some 10

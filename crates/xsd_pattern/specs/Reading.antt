@@ -34,7 +34,8 @@ whole_end (s, c ∷ t) = refuse Syntax (c ∷ t)
 unfoldable pub whole : Text → Result Tree (Refused PatternCause)
 whole t = sides most_groups t >>= whole_end
 
--- The fault where reading the text stopped: with the number of the character there, which is one more than there are where it is the end.
+-- The fault where reading the text stopped: with the number of the character there, which is one more than there are where it
+-- is the end.
 abbrev pub located : Text → Refused PatternCause → PatternFault
 located text r = record { at = length text - length r.at + 1; why = r.why }
 

@@ -5,14 +5,15 @@ ghost use Rattle.reading.specs.Codes.{codes_of};
 ghost use Rattle.reading.specs.Lines.{Answers};
 ghost use Rattle.reading.specs.Reading.{Yields};
 ghost use Rattle.pattern_tree.specs.declared.tree.Tree.{Tree};
+ghost use Rattle.pattern_tree.specs.Matching.{Matches};
 ghost use Rattle.xsd_pattern.specs.Grammar.{Parses};
 ghost use Rattle.xsd_pattern.specs.Reading as spec;
 
 use crate::fault::{PatternCause, PatternFault};
 use crate::part::read_sides;
 use crate::weight::is_light;
-use ifc_base::Refusal;
-use pattern_tree::Tree;
+use ifc_base::{Memory, Refusal};
+use pattern_tree::{Tree, matches};
 use reading::{CharCursor, Stop, place_of};
 use std::alloc::Global;
 use std::marker::Model;
@@ -138,5 +139,14 @@ impl Pattern {
         } else {
             Err(Refusal::Fault(of_all(PatternCause::TooLong)))
         }
+    }
+
+    /// Whether the pattern matches the text, as a whole. The answer is the definition's for every text; the only refusal is want
+    /// of memory. All ways through the pattern are followed at once and none is gone back (`pattern_tree::matches`): for a weight
+    /// `w`, groups `d` deep and `p` characters of pattern `O(d w + p)` for each character of the text, and as much memory in all.
+    pub fn matches(&self, alloc: Global, text: &str) -> Result<bool, Memory>
+        ensures { IfOk result (λ answer. IsTrue answer ↔ Matches self.now (chars text.now)) }
+    {
+        matches(alloc, &self.tree, text)
     }
 }

@@ -1,0 +1,10 @@
+pub mod Numbers
+pub mod Weights
+pub mod Depth
+pub mod RepeatLaws
+pub mod SetLaws
+pub mod ClassLaws
+pub mod PartLaws
+pub mod PartComplete
+pub mod ReadLaws
+pub mod TurnLaws

@@ -1,0 +1,6 @@
+pub mod Characters
+pub mod Sets
+pub mod Repeats
+pub mod Parts
+pub mod Reading
+pub mod Grammar

@@ -1,5 +1,5 @@
 -- Instances of one entity, over tokens (ISO 10303-21, simple entity instances).
-use Rattle.std.specs.Prelude.{ℕ, Bool, true, false, List, [], ◌∷◌, Option, Some, None, Result, Ok, Err, if◌then◌else◌}
+use Rattle.std.specs.Prelude.{ℕ, List, Option, None, Result, Ok, Err, if◌then◌else◌}
 use Rattle.ifc_base.specs.declared.value.Value.{Value}
 use Rattle.ifc_base.specs.declared.value.Instance.{Instance}
 use Rattle.reading.specs.Codes.{codes_of}

@@ -6,3 +6,5 @@ pub mod Tokens
 pub mod Values
 pub mod Instances
 pub mod Readings
+pub mod Headers
+pub mod Files

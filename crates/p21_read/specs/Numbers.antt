@@ -1,5 +1,5 @@
 -- Integers, reals and the numbers of instances (ISO 10303-21, tokens).
-use Rattle.std.specs.Prelude.{ℕ, ℤ, pos, ◌-ℤ◌, ◌+◌, ◌*◌, ◌-◌, ◌^◌, min, Bool, true, false, ◌||◌, List, [], ◌∷◌, Option, Some, None, Ok, ◌==◌, nat_lt, if◌then◌else◌}
+use Rattle.std.specs.Prelude.{ℕ, ℤ, pos, ◌-ℤ◌, ◌+◌, ◌*◌, ◌-◌, ◌^◌, min, Bool, ◌||◌, [], ◌∷◌, Option, Some, None, Ok, ◌==◌, nat_lt, if◌then◌else◌}
 use Rattle.std.specs.Char.{is_ascii_digit}
 use Rattle.reading.specs.Reading.{Text, Read, refuse}
 use Rattle.reading.specs.Runs.{begins}

@@ -1,5 +1,5 @@
 -- Tokens, with where they begin (ISO 10303-21, tokens).
-use Rattle.std.specs.Prelude.{ℕ, Bool, true, false, ◌||◌, List, [], ◌∷◌, Ok, ◌==◌, if◌then◌else◌}
+use Rattle.std.specs.Prelude.{ℕ, false, ◌||◌, [], ◌∷◌, Ok, ◌==◌, if◌then◌else◌}
 use Rattle.std.specs.Char.{is_ascii_digit}
 use Rattle.reading.specs.Codes.{codes_of, is_mark}
 use Rattle.reading.specs.Reading.{Text, Read, ◌>>=◌, refuse}

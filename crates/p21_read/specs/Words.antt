@@ -1,5 +1,5 @@
 -- Keywords, names of enumeration values, binaries and section words (ISO 10303-21, tokens).
-use Rattle.std.specs.Prelude.{ℕ, Bool, true, false, ◌&&◌, ◌||◌, not, List, [], ◌∷◌, ◌++◌, Option, Some, None, Ok, ◌==◌, nat_le, if◌then◌else◌}
+use Rattle.std.specs.Prelude.{ℕ, Bool, true, ◌&&◌, ◌||◌, not, List, [], ◌∷◌, ◌++◌, Option, Some, None, Ok, ◌==◌, nat_le, if◌then◌else◌}
 use Rattle.std.specs.Char.{is_ascii_digit, is_ascii_hexdigit, is_ascii_alphabetic, is_ascii_lowercase, to_ascii_uppercase}
 use Rattle.reading.specs.Reading.{Text, Read, refuse}
 use Rattle.p21_read.specs.declared.fault.P21Cause.{P21Cause}

@@ -1,4 +1,4 @@
--- Tokens of EXPRESS (ISO 10303-11, clause 7), with the first refusal.
+-- Tokens of EXPRESS (ISO 10303-11, lexical elements), with the first refusal.
 use Rattle.std.specs.Prelude.{ℕ, Bool, true, false, ◌&&◌, ◌||◌, List, [], ◌∷◌, ◌++◌, Option, Some, None, Ok, ◌==◌, if◌then◌else◌}
 use Rattle.std.specs.Char.{is_ascii_alphanumeric, is_ascii_graphic}
 use Rattle.std.specs.Str.{str_eq_ignore_ascii_case}
@@ -13,7 +13,7 @@ use Rattle.express_decl.specs.declared.token.Token as code_token
 use Rattle.express_decl.specs.declared.token.Token.TheVariants as code
 use Rattle.express_decl.specs.declared.token.Lexed as lexed
 
--- ---- blanks and remarks (clause 7.1.6)
+-- ---- blanks and remarks
 
 unfoldable pub is_blank : ℕ → Bool
 is_blank c = c == 32 || c == 9 || c == 10 || c == 13
@@ -102,7 +102,7 @@ lexed_view x = record { token = token_view x.token; at = codes_of x.at.now }
 abbrev pub is_word : ℕ → Bool
 is_word c = is_ascii_alphanumeric c || c == 95
 
--- What follows the string that began at `start` (clause 7.5.4). The flag says that a quote came just before: another one is a quote
+-- What follows the string that began at `start`. The flag says that a quote came just before: another one is a quote
 -- of the text, and anything else follows the string.
 unfoldable pub quoted : Bool → Text → Text → Read DeclCause (Unit {0})
 quoted false start [] = refuse Unclosed start

@@ -2,8 +2,13 @@
 #![tactic(auto)]
 
 mod decl;
+mod entity;
 mod remark;
+mod schema;
+mod section;
+mod step;
 mod token;
 mod word;
 
 pub use decl::{DeclCause, DeclFault, Decls};
+pub use schema::read_declarations;

@@ -1,11 +1,14 @@
 //! Words, and names made of them.
 
-ghost use Rattle.std.specs.Prelude.{◌≡◌, ◌++◌, ◌∷◌, [], map, IfOk};
+ghost use Rattle.std.specs.Prelude.{◌≡◌, ◌++◌, ◌∷◌, [], map, IfOk, MatchResult};
+ghost use Rattle.reading.specs.declared.stop.Stop.TheVariants as stop;
 ghost use Rattle.std.specs.Char.{to_ascii_uppercase};
 ghost use Rattle.express_decl.specs.Tokens as spec;
 
+use crate::decl::DeclCause;
 use crate::token::Token;
-use ifc_base::{Memory, Name};
+use ifc_base::{Listed, Memory, Name};
+use reading::Stop;
 use std::alloc::Global;
 
 /// The name of these letters, as they are written. `O(n)`.
@@ -53,5 +56,16 @@ pub(crate) fn is_sign(token: Token<'_>, wanted: char) -> bool
     match token {
         Token::Sign(found) => found == wanted,
         _ => false,
+    }
+}
+
+/// Adds the item at the end. For want of memory the list is as before.
+pub(crate) fn keep<'a, T: Drop>(list: &mut Listed<T>, item: T) -> Result<(), Stop<'a, DeclCause>>
+    ensures { MatchResult result (λ _. list.new ≡ list.old ++ item ∷ [])
+        (λ stopped. (list.new ≡ list.old) × (stopped ≡ stop.Memory)) }
+{
+    match list.push(item) {
+        Ok(()) => Ok(()),
+        Err(_) => Err(Stop::Memory),
     }
 }

@@ -2,7 +2,7 @@
 use Rattle.std.specs.Prelude.{ℕ, Bool, true, false, ◌||◌, List, [], ◌∷◌, ◌++◌, Option, Some, None, Ok, if◌then◌else◌, map, codes}
 use Rattle.std.specs.Char.{to_ascii_uppercase}
 use Rattle.ifc_base.specs.declared.decl.EntityDecl.{EntityDecl}
-use Rattle.reading.specs.Reading.{Text, Read, Refused, ◌>>=◌, refuse, all_turns}
+use Rattle.reading.specs.Reading.{Text, Read, ◌>>=◌, refuse, all_turns}
 use Rattle.express_decl.specs.declared.decl.DeclCause.{DeclCause}
 use Rattle.express_decl.specs.declared.decl.DeclCause.TheVariants.{ManySupertypes, Unexpected}
 use Rattle.express_decl.specs.declared.section.Heading.{Heading}

@@ -55,7 +55,7 @@ declaration s x t =
     else if says (codes "END_SCHEMA") x.token then Ok ((false, s), t)
     else (block_or_none (block_end x.token) x.at t >>= λ u. Ok ((true, s), u.1))
 
-unfoldable pub declaration_turn : Text → Decls → Text → Read DeclCause (Bool × Decls)
+abbrev pub declaration_turn : Text → Decls → Text → Read DeclCause (Bool × Decls)
 declaration_turn opened s t = next opened t >>= λ x. declaration s x.0 x.1
 
 abbrev pub no_decls : Decls

@@ -1,7 +1,7 @@
--- Steps that the grammar of declarations is made of. Each stands within a construct that began at `opened`, which is what is unclosed
--- where the input ends.
+-- Steps that the grammar of declarations is made of. Each stands within a construct that began at `opened`, which is what is
+-- unclosed where the input ends.
 use Rattle.std.specs.Prelude.{ℕ, zero, suc, ◌+◌, Bool, true, false, not, List, Option, Some, None, Ok, if◌then◌else◌}
-use Rattle.reading.specs.Reading.{Text, Read, Refused, ◌>>=◌, refuse, all_turns}
+use Rattle.reading.specs.Reading.{Text, Read, ◌>>=◌, refuse, all_turns}
 use Rattle.express_decl.specs.declared.decl.DeclCause.{DeclCause}
 use Rattle.express_decl.specs.declared.decl.DeclCause.TheVariants.{Unclosed, Unexpected}
 use Rattle.express_decl.specs.Tokens.{Token, Word, Quoted, Sign, Lexed, token, says, is_sign}
@@ -32,7 +32,7 @@ unfoldable pub sign : ℕ → Text → Text → Read DeclCause (Unit {0})
 sign wanted opened t = next opened t >>= λ x. if is_sign wanted x.0.token then Ok (tt, x.1) else refuse Unexpected x.0.at
 
 -- one token of those up to this word
-unfoldable pub to_word_turn : List ℕ → Text → Unit {0} → Text → Read DeclCause (Bool × Unit {0})
+abbrev pub to_word_turn : List ℕ → Text → Unit {0} → Text → Read DeclCause (Bool × Unit {0})
 to_word_turn wanted opened s t = next opened t >>= λ x. Ok ((not (says wanted x.0.token), tt), x.1)
 
 -- tokens up to this word
@@ -40,7 +40,7 @@ unfoldable pub to_word : List ℕ → Text → Text → Read DeclCause (Unit {0}
 to_word wanted opened t = all_turns Unexpected (to_word_turn wanted opened) tt t
 
 -- one token of those up to a semicolon
-unfoldable pub to_semicolon_turn : Text → Unit {0} → Text → Read DeclCause (Bool × Unit {0})
+abbrev pub to_semicolon_turn : Text → Unit {0} → Text → Read DeclCause (Bool × Unit {0})
 to_semicolon_turn opened s t = next opened t >>= λ x. Ok ((not (is_sign 59 x.0.token), tt), x.1)
 
 -- tokens up to a semicolon

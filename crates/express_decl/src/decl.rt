@@ -15,7 +15,8 @@ pub struct Decls {
 pub enum DeclCause {
     /// Outside strings and remarks: what is none of the characters 33 to 126, blank, tab, carriage return and line feed.
     BadToken,
-    /// The input ends within a remark, a string, a skipped block, an ENTITY, a TYPE or the SCHEMA, or before `SCHEMA name;` is complete.
+    /// The input ends within a remark, a string, a skipped block, an ENTITY, a TYPE or the SCHEMA, or before `SCHEMA name;` is
+    /// complete.
     Unclosed,
     /// The comma behind a supertype.
     ManySupertypes,

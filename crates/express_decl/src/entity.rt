@@ -97,7 +97,8 @@ fn parent_part<'a>(
     opened: &'a [u8],
     found: Lexed<'a>,
 ) -> Result<Option<Name>, Stop<'a, DeclCause>>
-    ensures { Gives (λ name. name) result cursor.new (spec.parent_part (codes_of opened.now) (lexed_view found.entry) cursor.old) }
+    ensures { Gives (λ name. name) result cursor.new (spec.parent_part (codes_of opened.now)
+        (lexed_view found.entry) cursor.old) }
 {
     if says(found.token, b"SUBTYPE") {
         return Ok(Some(parent(alloc, cursor, opened)?));

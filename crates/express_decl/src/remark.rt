@@ -62,12 +62,13 @@ fn close(opened: &mut OpenRemarks<'_>) -> bool
 }
 
 /// Passes one piece within remarks; whether one is still open.
-#[tactic(auto, using(crate::proofs::Places::place_laws), unfolding(crate::specs::Tokens::remark_turn, crate::specs::Tokens::behind, crate::specs::Tokens::next_is))]
+#[tactic(auto, using(crate::proofs::Places::place_laws), unfolding(crate::specs::Tokens::remark_turn))]
 fn remark_piece<'a>(
     cursor: &mut Cursor<'a>,
     opened: &mut OpenRemarks<'a>,
 ) -> Result<bool, Stop<'a, DeclCause>>
-    ensures { Gives (λ more. (more, spec.remarks_view opened.new)) result cursor.new (spec.remark_turn (spec.remarks_view opened.old) cursor.old) }
+    ensures { Gives (λ more. (more, spec.remarks_view opened.new)) result cursor.new (spec.remark_turn
+        (spec.remarks_view opened.old) cursor.old) }
 {
     let at = cursor.rest();
     let Some(code) = cursor.next() else {
@@ -87,7 +88,7 @@ fn remark_piece<'a>(
 }
 
 /// Passes the rest of the remark that began at `start`, with those within it.
-#[tactic(auto, using(reading::proofs::Each::each_laws, crate::proofs::Places::place_laws), unfolding(crate::specs::Tokens::remark))]
+#[tactic(auto, using(crate::proofs::Places::remark_laws), unfolding(crate::specs::Tokens::remark))]
 fn remark<'a>(
     alloc: Global,
     cursor: &mut Cursor<'a>,
@@ -108,7 +109,7 @@ fn remark<'a>(
 }
 
 /// Passes one blank or remark, if one comes next.
-#[tactic(auto, unfolding(crate::specs::Tokens::gap_turn, crate::specs::Tokens::behind, crate::specs::Tokens::next_is))]
+#[tactic(auto, using(crate::proofs::Places::place_laws), unfolding(crate::specs::Tokens::gap_turn))]
 fn blank_or_remark<'a>(alloc: Global, cursor: &mut Cursor<'a>) -> Result<bool, Stop<'a, DeclCause>>
     ensures { Gives (λ more. (more, tt)) result cursor.new (spec.gap_turn tt cursor.old) }
 {

@@ -101,7 +101,8 @@ fn declaration<'a>(
     decls: &mut Decls,
     first: Lexed<'a>,
 ) -> Result<bool, Stop<'a, DeclCause>>
-    ensures { Gives (λ more. (more, decls.new)) result cursor.new (spec.declaration decls.old (lexed_view first.entry) cursor.old) }
+    ensures { Gives (λ more. (more, decls.new)) result cursor.new (spec.declaration decls.old
+        (lexed_view first.entry) cursor.old) }
 {
     if says(first.token, b"ENTITY") {
         keep(&mut decls.entities, entity(alloc, cursor, first.at)?)?;
@@ -119,7 +120,7 @@ fn declaration<'a>(
 }
 
 /// Reads the declarations of the schema that began at `opened`, up to END_SCHEMA.
-#[tactic(auto, using(reading::proofs::Each::each_laws), unfolding(crate::specs::Schemas::declarations, crate::specs::Schemas::declaration_turn))]
+#[tactic(auto, using(reading::proofs::Each::each_laws), unfolding(crate::specs::Schemas::declarations))]
 fn declarations<'a>(
     alloc: Global,
     cursor: &mut Cursor<'a>,
@@ -160,8 +161,9 @@ fn whole(alloc: Global, bytes: &[u8]) -> Result<Decls, Stop<'_, DeclCause>>
 
 /// Reads the declarations of a schema: `SCHEMA name;`, entities, types and blocks that are skipped, `END_SCHEMA;`. `O(n)`.
 ///
-/// Entity and type names are kept in upper case, attribute names as written. A string, a remark and what a section other than DERIVE
-/// says are passed over. The only other refusal is want of memory.
+/// Names of entities and types are kept in upper case, names of attributes as written. What blocks, types and sections say is
+/// passed over, but for the names that DERIVE redeclares. Words are the same in either case. Remarks and parentheses may nest as
+/// deep as memory allows. The grammar is that of ISO 10303-11 (schema, entity and type declarations), cut to what is kept.
 pub fn read_declarations(alloc: Global, bytes: &[u8]) -> Result<Decls, Refusal<DeclFault>>
     // Which declarations they are; or which fault it is, and in which line.
     ensures exact { Answers (λ decls. decls) result (spec.reading bytes.now) }

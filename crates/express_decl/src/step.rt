@@ -79,7 +79,7 @@ pub(crate) fn sign<'a>(
 }
 
 /// Passes tokens up to this word.
-#[tactic(auto, using(reading::proofs::Each::each_laws), unfolding(crate::specs::Steps::to_word, crate::specs::Steps::to_word_turn))]
+#[tactic(auto, using(reading::proofs::Each::each_laws), unfolding(crate::specs::Steps::to_word))]
 pub(crate) fn to_word<'a>(
     alloc: Global,
     cursor: &mut Cursor<'a>,
@@ -97,7 +97,7 @@ pub(crate) fn to_word<'a>(
 }
 
 /// Passes tokens up to a semicolon.
-#[tactic(auto, using(reading::proofs::Each::each_laws), unfolding(crate::specs::Steps::to_semicolon, crate::specs::Steps::to_semicolon_turn))]
+#[tactic(auto, using(reading::proofs::Each::each_laws), unfolding(crate::specs::Steps::to_semicolon))]
 pub(crate) fn to_semicolon<'a>(
     alloc: Global,
     cursor: &mut Cursor<'a>,

@@ -43,9 +43,9 @@ LOCAL
     U : LIST [2:3] OF IfcDirection;
 END_LOCAL;
     IF (Dim = 3) THEN
-        D1 := NVL(IfcNormalise(Axis[3]), IfcDirection([0.0,0.0,1.0])); -- the third
+        Third := NVL(IfcNormalise(Axis[3]), IfcDirection([0.0,0.0,1.0])); -- the third
         REPEAT i := 1 TO 3;
-            U := [IfcFirstProjAxis(D1,Axis[1])];
+            U := [IfcFirstProjAxis(Third,Axis[1])];
         END_REPEAT;
     END_IF;
     RETURN(U);

@@ -1,0 +1,11 @@
+use Rattle.std.proofs.Common.{◌≡◌, ◌-◌}
+use Rattle.reading.specs.Codes.{codes_of}
+use Rattle.reading.specs.Reading.{each}
+use Rattle.express_decl.specs.declared.decl.DeclCause.TheVariants.{Unexpected}
+use Rattle.express_decl.specs.Steps.{to_semicolon, to_semicolon_turn}
+use Rattle.express_decl.proofs.step.to_semicolon.Given as goal
+
+abbrev pub invariant-loop : goal.invariant-loop
+invariant-loop l =
+    to_semicolon (codes_of l.fn.opened) l.fn.cursor
+    ≡ each Unexpected (to_semicolon_turn (codes_of l.fn.opened)) (l.end - l.counter) tt l.cursor

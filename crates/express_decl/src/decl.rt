@@ -1,0 +1,29 @@
+//! What is read, and why it can't be.
+
+use ifc_base::{EntityDecls, TypeDecls};
+use reading::Fault;
+
+/// The declarations of a schema: its entities and its types, each in declared order.
+#[derive(Debug, PartialEq, Eq, Drop)]
+pub struct Decls {
+    pub entities: EntityDecls,
+    pub types: TypeDecls,
+}
+
+/// Why bytes are no declarations.
+#[derive(Clone, Copy, Debug, PartialEq, Eq)]
+pub enum DeclCause {
+    /// Outside strings and remarks: what is none of the characters 33 to 126, blank, tab, carriage return and line feed.
+    BadToken,
+    /// The input ends within a remark, a string, a skipped block, an ENTITY, a TYPE or the SCHEMA, or before `SCHEMA name;` is
+    /// complete.
+    Unclosed,
+    /// The comma behind a supertype.
+    ManySupertypes,
+    /// Any other token that doesn't belong where it stands.
+    Unexpected,
+}
+
+/// The first fault: its cause, and the line in which the refused token begins, from 1. For Unclosed it is the line in which the
+/// innermost thing that is open begins.
+pub type DeclFault = Fault<DeclCause>;

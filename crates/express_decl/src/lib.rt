@@ -1,0 +1,14 @@
+//! Declarations of a schema in EXPRESS: its entities with their attributes, and the names of its types.
+#![tactic(auto)]
+
+mod decl;
+mod entity;
+mod remark;
+mod schema;
+mod section;
+mod step;
+mod token;
+mod word;
+
+pub use decl::{DeclCause, DeclFault, Decls};
+pub use schema::read_declarations;

@@ -1,5 +1,5 @@
 -- The ends of a run.
-use Rattle.std.proofs.Common.{◌≡◌, ℕ, ◌+◌, reverse, List, [], ◌∷◌, ◌++◌, length, length-append, take, drop, ◌-◌, codes, Bool, true, false, Option, Result, Ok, Err, refl, ap, sym, ◌∙◌, arith, rules}
+use Rattle.std.proofs.Common.{◌≡◌, ℕ, ◌+◌, reverse, List, [], ◌∷◌, ◌++◌, length, length-append, take, drop, ◌-◌, codes, Bool, true, false, Option, Result, Ok, Err, refl, ap, sym, subst, ◌∙◌, arith, rules}
 use Rattle.std.specs.Prelude.{if◌then◌else◌, Some, None, IfSome}
 use Rattle.std.proofs.lemmas.List.{take_all}
 use Rattle.std.proofs.Math.Seq.{drop-append_seam}
@@ -205,3 +205,7 @@ pub no_fault_of_sink : (P : Command → Inputs → Type 0) (o : Option Command) 
     → IfSome o (λ command. (i : Inputs) × At (4 ∷ []) status (P command i))
 no_fault_of_sink P None status other = tt
 no_fault_of_sink P (Some command) status other = (no_inputs, rw other tt)
+
+-- sure of so many bytes and no more
+pub no_more : (sure : ℕ → Type 0) (n : ℕ) → sure n → sure (n + 0)
+no_more sure n h = subst sure (let e : n ≡ n + 0 = omega arith in e) h

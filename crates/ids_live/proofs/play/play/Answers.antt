@@ -1,10 +1,10 @@
-use Rattle.std.proofs.Common.{◌≡◌, Ok, refl, rules, ap, sym, ◌∙◌}
+use Rattle.std.proofs.Common.{length, ◌≡◌, Ok, refl, rules, ap, sym, ◌∙◌}
 use Rattle.audit_model.specs.Report.{audit_text, report_text, all_pass}
 use Rattle.audit_model.specs.Scratch.{scratch}
 use Rattle.ids_live.specs.Complete.{wanted}
 use Rattle.ids_live.specs.Drain.{drain}
 use Rattle.ids_live.specs.Steps.{ends_pass}
-use Rattle.ids_live.proofs.Ends.{done_end, cut_end, audit_passes, wanted_text, serial_legal}
+use Rattle.ids_live.proofs.Ends.{no_more, done_end, cut_end, audit_passes, wanted_text, serial_legal}
 use Rattle.ids_live.proofs.play.play.Goals as goal
 
 pub returns-in-Ok-write_all-clause-ends : goal.returns-in-Ok-write_all-clause-ends
@@ -31,4 +31,4 @@ returns-clause-sure g c =
     let counted : c.in-Ok.audited.tallies.items ≡ scratch l.specs l.model = rw (c.as_slice.ensures, c.as_slice-2.ensures) at c.in-Ok.ensures.tallies in
     let text : c.in-Ok-render_report.text ≡ audit_text l.specs l.model 0 = c.in-Ok-render_report.ensures ∙ ap (report_text 0) (c.deref.ensures.value ∙ counted) in
     let is : wanted (Ok l) ≡ c.as_slice-3.result.now = wanted_text l ∙ sym text ∙ sym c.as_slice-3.ensures in
-    λ h. let ok = c.in-Err.ensures.sure (rw is at h) in cc
+    λ h. let ok = c.in-Err.ensures.sure 0 (no_more (g.K.Sink.sure c.args.out.now) (length c.as_slice-3.result.now) (rw is at h)) in cc

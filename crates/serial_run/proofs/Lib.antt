@@ -8,3 +8,4 @@ pub mod Draining
 pub mod Ending
 pub mod Counting
 pub mod Finishing
+pub mod Following

@@ -7,3 +7,4 @@ pub mod Steps
 pub mod Running
 pub mod Runs
 pub mod Quiet
+pub mod Phased

@@ -4,6 +4,7 @@
 #![tactic(auto)]
 
 mod editor;
+mod laws;
 mod lines;
 mod phases;
 mod run;
@@ -11,4 +12,5 @@ mod steps;
 mod telling;
 mod turns;
 
+pub use laws::script_is_phased;
 pub use run::{End, Ran, run_script};

@@ -1,6 +1,6 @@
 -- Expressions: what a program stands for, with the texts that it takes, its marks, and what is left to
 -- be read from the marks on.
-use Rattle.std.proofs.Common.{◌≡◌, ◌<◌, ℕ, zero, suc, Bool, true, false, ◌&&◌, ◌||◌, List, [], ◌∷◌, ◌++◌, ◌⊎◌}
+use Rattle.std.proofs.Common.{◌≡◌, ◌<◌, ℕ, zero, suc, Bool, true, false, ◌&&◌, ◌||◌, [], ◌∷◌, ◌++◌, ◌⊎◌}
 use Rattle.pattern_tree.specs.Matching.{Text}
 use Rattle.pattern_tree.specs.declared.machine.Wire.{Wire}
 use Rattle.pattern_tree.specs.Machine.{wire, or, no_way}

@@ -1,9 +1,9 @@
 -- What `final` and the wires of a pass say.
-use Rattle.std.proofs.Common.{◌≡◌, ◌<◌, ℕ, zero, suc, Bool, true, false, ◌&&◌, ◌||◌, List, [], ◌∷◌, ◌++◌, ◌⊎◌, inl, inr, refl, sym, ap, ◌∙◌}
+use Rattle.std.proofs.Common.{◌≡◌, ℕ, Bool, true, false, ◌&&◌, ◌||◌, refl, sym, ap, ◌∙◌}
 use Rattle.pattern_tree.specs.declared.machine.Wire.{Wire}
-use Rattle.pattern_tree.specs.Machine.{wire, or, no_way}
+use Rattle.pattern_tree.specs.Machine.{wire}
 use Rattle.pattern_tree.proofs.Booleans.{or_false}
-use Rattle.pattern_tree.proofs.Expressions.{Expr, one, blank, both, never, either, loop, takes_empty, Fine, Marks, final, Good, Passed, pass, unmarked}
+use Rattle.pattern_tree.proofs.Expressions.{Expr, one, blank, both, never, either, loop, takes_empty, Fine, Marks, final, Good, pass, unmarked}
 
 absorbed : (y f e : Bool) → (y || f) ≡ ((y || f) || (e && f))
 absorbed true f e = refl

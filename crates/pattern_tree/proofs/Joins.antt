@@ -1,7 +1,7 @@
 -- Joins of so many texts: put together, split, and with the empty text among them.
-use Rattle.std.proofs.Common.{◌≡◌, ◌<◌, ◌≤◌, ◌+◌, ℕ, zero, suc, Bool, true, false, List, [], ◌∷◌, ◌++◌, ◌⊎◌, inl, inr, refl, sym, ap, ◌∙◌, subst, arith, append_assoc}
+use Rattle.std.proofs.Common.{◌≡◌, ◌≤◌, ◌+◌, ℕ, zero, suc, [], ◌++◌, ◌⊎◌, inl, inr, refl, sym, ap, ◌∙◌, subst, arith, append_assoc}
 use Rattle.pattern_tree.specs.Matching.{Text}
-use Rattle.pattern_tree.proofs.Expressions.{Split, Power, Powers}
+use Rattle.pattern_tree.proofs.Expressions.{Split, Power}
 
 pub split_left : (P Q R : Text → Type 0) (s : Text) → Split (Split P Q) R s → Split P (Split Q R) s
 split_left P Q R s h = record {

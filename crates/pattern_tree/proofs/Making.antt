@@ -1,10 +1,10 @@
 -- The program of a pattern matches exactly what the pattern matches.
-use Rattle.std.proofs.Common.{◌≡◌, ◌<◌, ◌+◌, ℕ, zero, suc, Bool, true, false, List, [], ◌∷◌, ◌++◌, ◌⊎◌, inl, inr, length, map, fold, refl, sym, ap, ◌∙◌, subst, arith, append_assoc, length-append, add-one, add-zero, zero-add, rules, slice_index_or}
+use Rattle.std.proofs.Common.{◌≡◌, ◌+◌, ℕ, zero, suc, Bool, true, false, List, [], ◌∷◌, ◌++◌, ◌⊎◌, inl, inr, length, map, fold, refl, sym, ap, ◌∙◌, subst, arith, append_assoc, length-append, add-zero, rules, slice_index_or}
 use Rattle.std.proofs.lemmas.List.{append-nil}
 use Rattle.pattern_tree.specs.Matching.{Text, Permits, Matches, one, sequence, choice, repeat, InTurn, no_part, next_part, OfASide, first_side, later_side, Joined, no_text, next_text}
 use Rattle.pattern_tree.specs.Trees.{Level, fold_tree, is_of, sets_of, sets_at, one_after_another, hits_in}
 use Rattle.pattern_tree.specs.Machine.{is_matched}
-use Rattle.pattern_tree.specs.Programs.{single, nothing, beside, joined, chosen, alternated, all_gathered, gathered, no_sides, repeated, program, program_at, programs, in_turn}
+use Rattle.pattern_tree.specs.Programs.{single, nothing, beside, joined, chosen, alternated, all_gathered, gathered, no_sides, repeated, program, program_at, programs}
 use Rattle.pattern_tree.specs.declared.program.Part.{Part}
 use Rattle.pattern_tree.specs.declared.program.Sides.{Sides}
 use Rattle.pattern_tree.specs.declared.tree.Set.{Set}
@@ -15,7 +15,7 @@ use Rattle.pattern_tree.specs.declared.tree.Tree.TheVariants.{rolls-Set, rolls-S
 use Rattle.pattern_tree.specs.declared.tree.Tree.TheOpen.{Tree-F}
 use Rattle.pattern_tree.specs.declared.tree.Tree.TheFolds.{ind-Tree}
 use Rattle.pattern_tree.specs.declared.tree.Tree.TheViews.{out-Tree, roll-Tree}
-use Rattle.pattern_tree.proofs.Expressions.{Hits, Hit, Split, Power, Takes}
+use Rattle.pattern_tree.proofs.Expressions.{Hits, Hit, Split, Power}
 use Rattle.pattern_tree.proofs.Joins.{split_left, split_right}
 use Rattle.pattern_tree.proofs.Outcomes.{hit_by, matched}
 use Rattle.pattern_tree.proofs.Spelling.{Spells, changed, single_so, nothing_so, beside_so}

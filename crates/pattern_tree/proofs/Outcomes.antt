@@ -1,16 +1,16 @@
 -- A program matches exactly the texts that its expression takes.
-use Rattle.std.proofs.Common.{◌≡◌, ◌↔◌, ℕ, zero, suc, Bool, true, false, ◌&&◌, ◌||◌, List, [], ◌∷◌, ◌++◌, ◌⊎◌, inl, inr, length, fold, replicate, refl, sym, ap, ◌∙◌, subst}
+use Rattle.std.proofs.Common.{◌≡◌, ℕ, Bool, true, false, List, [], ◌∷◌, ◌++◌, inl, inr, length, fold, replicate, refl, sym, ap, ◌∙◌}
 use Rattle.std.proofs.lemmas.List.{append-nil}
 use Rattle.pattern_tree.specs.Matching.{Text}
 use Rattle.pattern_tree.specs.declared.machine.Wire.{Wire}
 use Rattle.pattern_tree.specs.declared.program.Op.{Op}
 use Rattle.pattern_tree.specs.declared.program.Op.TheVariants as op
 use Rattle.pattern_tree.specs.declared.program.Part.{Part}
-use Rattle.pattern_tree.specs.Machine.{wire, run, behind, passed, Reached, taken, begun}
-use Rattle.pattern_tree.proofs.Expressions.{Expr, one, blank, both, never, either, loop, Hits, Takes, takes_empty, Fine, Marks, Rest, final, Good, Passed, pass, unmarked}
-use Rattle.pattern_tree.proofs.Finals.{pass_next, pass_good, final_unmarked, good_unmarked}
+use Rattle.pattern_tree.specs.Machine.{wire, run, passed, Reached, taken, begun}
+use Rattle.pattern_tree.proofs.Expressions.{Expr, one, blank, both, never, either, loop, Hits, Takes, takes_empty, Fine, Marks, Rest, Good, pass, unmarked}
+use Rattle.pattern_tree.proofs.Finals.{pass_next, pass_good, good_unmarked}
 use Rattle.pattern_tree.proofs.Shifts.{From, shift_to, shift_from, rest_to_final, final_to_rest, takes_to_empty, empty_to_takes}
-use Rattle.pattern_tree.proofs.Runs.{code, flat, said, RunsSo, runs_so}
+use Rattle.pattern_tree.proofs.Runs.{code, flat, said, runs_so}
 
 -- what the sets say, for each set and each character
 abbrev pub hit_by : (ℕ → List Bool) → Hits

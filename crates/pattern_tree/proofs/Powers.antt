@@ -1,7 +1,7 @@
 -- Texts that split, and joins of so many texts.
-use Rattle.std.proofs.Common.{◌≡◌, ◌<◌, ℕ, zero, suc, ◌+◌, Bool, true, false, List, [], ◌∷◌, ◌++◌, ◌⊎◌, inl, inr, refl, sym, ap, ◌∙◌, subst, arith}
+use Rattle.std.proofs.Common.{◌≡◌, ◌<◌, ℕ, zero, suc, true, false, [], ◌∷◌, ◌++◌, ◌⊎◌, inl, inr, refl, sym, subst, arith}
 use Rattle.pattern_tree.specs.Matching.{Text}
-use Rattle.pattern_tree.proofs.Expressions.{Split, Power, Powers}
+use Rattle.pattern_tree.proofs.Expressions.{Split, Power}
 
 -- the parts of the empty text
 pub record NoParts (front back : Text) : Type 0 where

@@ -1,22 +1,18 @@
 -- A repeated part matches the joins of a permitted number of its texts.
-use Rattle.std.proofs.Common.{◌≡◌, ◌≢◌, ◌<◌, ◌≤◌, ◌+◌, ◌-◌, ℕ, zero, suc, Bool, true, false, ◌&&◌, ◌||◌, ◌==◌, Option, Some, None, nat_lt, List, [], ◌∷◌, ◌++◌, ◌⊎◌, inl, inr, length, refl, sym, ap, ◌∙◌, subst, arith, if◌then◌else◌}
+use Rattle.std.proofs.Common.{◌≡◌, ◌≢◌, ◌<◌, ◌≤◌, ◌+◌, ◌-◌, ℕ, zero, suc, Bool, true, false, ◌&&◌, ◌||◌, ◌==◌, Option, Some, None, nat_lt, [], ◌++◌, length, refl, sym, ap, ◌∙◌, subst, arith, if◌then◌else◌}
 use Rattle.std.specs.Prelude.{IfSome}
 use Rattle.std.proofs.lemmas.Bool.{ltb-true, ltb-false, eqb-true, eqb-false}
 use Rattle.std.proofs.Math.Dec.{eqb-suc-zero}
 use Rattle.std.proofs.lemmas.List.{nil_from_length}
-use Rattle.pattern_tree.specs.Matching.{Text, Permits}
-use Rattle.pattern_tree.specs.declared.program.Op.{Op}
-use Rattle.pattern_tree.specs.declared.program.Op.TheVariants as op
+use Rattle.pattern_tree.specs.Matching.{Text}
 use Rattle.pattern_tree.specs.declared.program.Part.{Part}
 use Rattle.pattern_tree.specs.declared.tree.Times.{Times}
 use Rattle.pattern_tree.specs.Programs.{forked, no_sides, beside, power, optional, endless, up_to, from, repeated_most, repeated}
-use Rattle.pattern_tree.proofs.Booleans.{truth}
-use Rattle.pattern_tree.proofs.Expressions.{Expr, never, Split, Power, Powers, Hits, Takes, takes_empty, Fine}
+use Rattle.pattern_tree.proofs.Expressions.{never, Split, Power, Powers, Hits}
 use Rattle.pattern_tree.proofs.Powers.{any_number}
 use Rattle.pattern_tree.proofs.Joins.{Maybe, power_join, power_split, power_nil, only_nil, maybe_fewer, fewer_maybe}
-use Rattle.pattern_tree.proofs.Shifts.{takes_to_empty, empty_to_takes}
-use Rattle.pattern_tree.proofs.Outcomes.{IsOf}
-use Rattle.pattern_tree.proofs.Spelling.{Spells, changed, beside_so, powered, powered_so, optional_so, optional_empty, endless_so, none_or, Idle, idle}
+use Rattle.pattern_tree.proofs.Shifts.{empty_to_takes}
+use Rattle.pattern_tree.proofs.Spelling.{Spells, changed, beside_so, powered, powered_so, optional_so, optional_empty, endless_so, none_or, idle}
 
 -- the join of so many texts, from the least number to the greatest, if there is one
 pub record Counted (P : Text → Type 0) (least : ℕ) (most : Option ℕ) (s : Text) : Type 0 where

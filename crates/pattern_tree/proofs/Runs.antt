@@ -6,7 +6,7 @@ use Rattle.pattern_tree.specs.declared.program.Op.{Op}
 use Rattle.pattern_tree.specs.declared.program.Op.TheVariants as op
 use Rattle.pattern_tree.specs.Machine.{wire, or, no_way, kept_of, run, behind, mark_at}
 use Rattle.pattern_tree.proofs.Booleans.{or_false, or_assoc}
-use Rattle.pattern_tree.proofs.Expressions.{Expr, one, blank, both, never, either, loop, Lined, Fine, Marks, Passed, pass, unmarked}
+use Rattle.pattern_tree.proofs.Expressions.{Expr, one, blank, both, never, either, loop, Lined, Fine, Marks, pass}
 
 -- the steps of an expression; with the flag those of the sides of an alternation
 abbrev pub code : Bool → Expr → List Op

@@ -1,11 +1,11 @@
 -- One character is taken rightly: what is left from the new marks on is what was left before, behind
 -- that character.
-use Rattle.std.proofs.Common.{◌≡◌, ◌<◌, ℕ, zero, suc, Bool, true, false, ◌&&◌, ◌||◌, List, [], ◌∷◌, ◌++◌, ◌⊎◌, inl, inr, refl, sym, ap, ◌∙◌, subst, arith}
+use Rattle.std.proofs.Common.{◌≡◌, ℕ, suc, Bool, true, false, ◌&&◌, ◌||◌, [], ◌∷◌, ◌⊎◌, inl, inr, refl, sym, ap, ◌∙◌, arith}
 use Rattle.pattern_tree.specs.Matching.{Text}
 use Rattle.pattern_tree.specs.declared.machine.Wire.{Wire}
-use Rattle.pattern_tree.specs.Machine.{wire, or, no_way}
+use Rattle.pattern_tree.specs.Machine.{wire}
 use Rattle.pattern_tree.proofs.Booleans.{or_cases, or_left, or_right, and_left, and_right, and_both, truth}
-use Rattle.pattern_tree.proofs.Expressions.{Expr, one, blank, both, never, either, loop, Split, Power, Powers, Hits, Hit, Takes, takes_empty, Fine, Marks, Rest, final, Good, Passed, pass}
+use Rattle.pattern_tree.proofs.Expressions.{Expr, one, blank, both, never, either, loop, Powers, Hits, Takes, takes_empty, Fine, Marks, Rest, final, Good, pass}
 use Rattle.pattern_tree.proofs.Finals.{final_on, pass_now}
 use Rattle.pattern_tree.proofs.Powers.{nil_split, cut_split, Begun, begun, nil_power, any_number}
 

@@ -1,19 +1,17 @@
 -- An alternation matches what one of its sides matches.
-use Rattle.std.proofs.Common.{◌≡◌, ◌<◌, ◌+◌, ℕ, zero, suc, Bool, true, false, ◌&&◌, ◌||◌, ◌==◌, List, [], ◌∷◌, ◌++◌, ◌⊎◌, inl, inr, length, fold, refl, sym, ap, ◌∙◌, subst, arith, append_assoc, if◌then◌else◌}
+use Rattle.std.proofs.Common.{◌≡◌, Bool, true, false, ◌&&◌, ◌||◌, ◌==◌, [], ◌∷◌, ◌++◌, ◌⊎◌, inl, inr, length, refl, sym, ap, ◌∙◌, subst, append_assoc, if◌then◌else◌}
 use Rattle.std.proofs.lemmas.Bool.{eqb-true}
 use Rattle.std.proofs.lemmas.List.{append-nil, nil_from_length}
 use Rattle.pattern_tree.specs.Matching.{Text}
-use Rattle.pattern_tree.specs.declared.program.Op.{Op}
 use Rattle.pattern_tree.specs.declared.program.Op.TheVariants as op
 use Rattle.pattern_tree.specs.declared.program.Part.{Part}
 use Rattle.pattern_tree.specs.declared.program.Sides.{Sides}
-use Rattle.pattern_tree.specs.Programs.{nothing, forked, gathered, no_sides, all_gathered, alternated, chosen}
+use Rattle.pattern_tree.specs.Programs.{nothing, forked, gathered, no_sides, alternated}
 use Rattle.pattern_tree.proofs.Booleans.{or_false, or_assoc}
 use Rattle.pattern_tree.proofs.Expressions.{Expr, one, blank, both, never, either, loop, Hits, Takes, takes_empty, Lined, Fine}
 use Rattle.pattern_tree.proofs.Runs.{code}
 use Rattle.pattern_tree.proofs.Shifts.{empty_to_takes}
-use Rattle.pattern_tree.proofs.Outcomes.{IsOf}
-use Rattle.pattern_tree.proofs.Spelling.{Spells, nothing_so, changed, Idle, idle, nil_append}
+use Rattle.pattern_tree.proofs.Spelling.{Spells, nothing_so, changed, idle, nil_append}
 
 -- one more side behind the others
 abbrev add : Expr → Expr → Expr

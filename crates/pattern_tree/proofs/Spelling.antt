@@ -1,15 +1,13 @@
 -- Which texts the program of a part matches, by an expression of which it is the program.
-use Rattle.std.proofs.Common.{◌≡◌, ◌≢◌, ◌<◌, ◌≤◌, ◌+◌, ◌-◌, ℕ, zero, suc, Bool, true, false, ◌&&◌, ◌||◌, ◌==◌, List, [], ◌∷◌, ◌++◌, ◌⊎◌, inl, inr, length, refl, sym, ap, ◌∙◌, subst, arith, append_assoc, if◌then◌else◌}
-use Rattle.std.proofs.lemmas.List.{append-nil}
+use Rattle.std.proofs.Common.{◌≡◌, ◌+◌, ℕ, zero, suc, Bool, true, false, ◌&&◌, ◌||◌, List, [], ◌∷◌, ◌++◌, inl, inr, length, refl, sym, ap, ◌∙◌, subst, append_assoc, if◌then◌else◌}
 use Rattle.pattern_tree.specs.Matching.{Text}
 use Rattle.pattern_tree.specs.declared.program.Op.{Op}
 use Rattle.pattern_tree.specs.declared.program.Op.TheVariants as op
 use Rattle.pattern_tree.specs.declared.program.Part.{Part}
 use Rattle.pattern_tree.specs.Programs.{single, nothing, beside, power, optional, endless}
-use Rattle.pattern_tree.proofs.Booleans.{or_false, truth}
 use Rattle.pattern_tree.proofs.Expressions.{Expr, one, blank, both, never, either, loop, Split, Power, Powers, Hits, Hit, Takes, takes_empty, Fine}
 use Rattle.pattern_tree.proofs.Joins.{Maybe, split_map, power_map}
-use Rattle.pattern_tree.proofs.Shifts.{takes_to_empty, empty_to_takes}
+use Rattle.pattern_tree.proofs.Shifts.{empty_to_takes}
 use Rattle.pattern_tree.proofs.Runs.{code}
 use Rattle.pattern_tree.proofs.Outcomes.{IsOf}
 

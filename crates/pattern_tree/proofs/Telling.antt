@@ -1,5 +1,5 @@
 -- From the loop over the text to the promise of `matches`.
-use Rattle.std.proofs.Common.{◌≡◌, ◌↔◌, ℕ, Bool, true, List, [], ◌∷◌, map, fold, refl, sym, ap, ◌∙◌}
+use Rattle.std.proofs.Common.{◌≡◌, ◌↔◌, ℕ, Bool, List, [], ◌∷◌, map, fold, refl, sym, ap, ◌∙◌}
 use Rattle.std.specs.Prelude.{Result, Ok, Err, IfOk, IsTrue}
 use Rattle.ifc_base.specs.declared.memory.Memory.{Memory}
 use Rattle.pattern_tree.specs.declared.program.Op.{Op}

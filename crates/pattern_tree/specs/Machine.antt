@@ -1,5 +1,6 @@
 -- How a program takes a character: each step makes its new mark of the old ones and hands a wire on.
-use Rattle.std.specs.Prelude.{ℕ, map, fold, replicate, length, Bool, true, false, ◌&&◌, ◌||◌, List, [], ◌∷◌, ◌++◌, slice_index_or, if◌then◌else◌}
+use Rattle.std.specs.Prelude.{ℕ, fold, replicate, length, Bool, true, false, ◌&&◌, ◌||◌, if◌then◌else◌}
+use Rattle.std.specs.Prelude.{List, [], ◌∷◌, ◌++◌, slice_index_or}
 use Rattle.pattern_tree.specs.declared.program.Op.{Op}
 use Rattle.pattern_tree.specs.declared.program.Op.TheVariants as op
 use Rattle.pattern_tree.specs.declared.program.Part.{Part}
@@ -10,15 +11,19 @@ use Rattle.pattern_tree.specs.declared.machine.Wire.{Wire}
 use Rattle.pattern_tree.specs.declared.machine.Kept.{Kept}
 use Rattle.pattern_tree.specs.declared.machine.Turn.{Turn}
 
+-- whether the text can end here: before the next character, and behind it
 abbrev pub wire : Bool → Bool → Wire
 wire now next = record { now = now; next = next }
 
+-- it can't
 abbrev pub no_way : Wire
 no_way = wire false false
 
+-- one of the two ways
 abbrev pub or : Wire → Wire → Wire
 or one other = wire (one.now || other.now) (one.next || other.next)
 
+-- the wire that came to an alternation or a repeat, and what was gathered of its sides
 abbrev pub kept_of : Wire → Wire → Kept
 kept_of came gathered = record { came = came; gathered = gathered }
 
@@ -27,6 +32,7 @@ abbrev pub popped : List Kept → Kept × List Kept
 popped [] = (kept_of no_way no_way, [])
 popped (last ∷ others) = (last, others)
 
+-- what a step gives: the wire behind it, and its new mark
 abbrev pub turned : Wire → Bool → Turn
 turned wire mark = record { wire = wire; mark = mark }
 
@@ -43,10 +49,12 @@ hit_of hits _ = false
 abbrev pub step : Op → Bool → List Bool → Wire → List Kept → Turn × List Kept
 step (op.One at) hit marks w kept = (turned (wire (mark_at marks 0) (w.now && hit)) (w.now && hit), kept)
 step op.Fork hit marks w kept = (turned w false, kept_of w no_way ∷ kept)
-step op.Next hit marks w kept = (let last = popped kept in (turned last.0.came false, kept_of last.0.came (or last.0.gathered w) ∷ last.1))
+step op.Next hit marks w kept =
+    (let last = popped kept in (turned last.0.came false, kept_of last.0.came (or last.0.gathered w) ∷ last.1))
 step op.Join hit marks w kept = (let last = popped kept in (turned last.0.gathered false, last.1))
 step (op.Enter far) hit marks w kept = (turned (wire (w.now || mark_at marks far) false) false, kept_of w no_way ∷ kept)
-step (op.Leave empty) hit marks w kept = (let last = popped kept in (turned (if empty then or w last.0.came else w) w.next, last.1))
+step (op.Leave empty) hit marks w kept =
+    (let last = popped kept in (turned (if empty then or w last.0.came else w) w.next, last.1))
 
 -- further marks before those of a run
 abbrev pub behind : List Bool → List Bool × Wire → List Bool × Wire

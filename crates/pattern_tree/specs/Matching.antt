@@ -1,5 +1,5 @@
 -- What a pattern matches: whole texts, by cases.
-use Rattle.std.specs.Prelude.{◌≡◌, ℕ, suc, ◌≤◌, ◌++◌, List, [], ◌∷◌, Bool, true, IfSome}
+use Rattle.std.specs.Prelude.{◌≡◌, ℕ, suc, ◌≤◌, ◌++◌, List, [], ◌∷◌, true, IfSome}
 use Rattle.pattern_tree.specs.declared.tree.Set.{Set}
 use Rattle.pattern_tree.specs.declared.tree.Times.{Times}
 use Rattle.pattern_tree.specs.declared.tree.Tree.{Tree}
@@ -25,12 +25,14 @@ mutual
     -- an alternation matches what one of its sides matches
     choice : (sides : List Tree) (text : Text) → OfASide sides text → Matches (pattern.Choice sides) text
     -- a repeat matches the join of a permitted number of texts that its part matches
-    repeat : (part : Tree) (times : Times) (n : ℕ) (text : Text) → Permits times n → Joined part n text → Matches (pattern.Repeat part times) text
+    repeat : (part : Tree) (times : Times) (n : ℕ) (text : Text) → Permits times n → Joined part n text
+        → Matches (pattern.Repeat part times) text
 
   -- the text splits into texts that the patterns match, one after the other
   pub data InTurn : List Tree → Text → Type 0 where
     no_part : InTurn [] []
-    next_part : (part : Tree) (parts : List Tree) (first rest text : Text) → text ≡ first ++ rest → Matches part first → InTurn parts rest → InTurn (part ∷ parts) text
+    next_part : (part : Tree) (parts : List Tree) (first rest text : Text)
+        → text ≡ first ++ rest → Matches part first → InTurn parts rest → InTurn (part ∷ parts) text
 
   -- one of the patterns matches the text
   pub data OfASide : List Tree → Text → Type 0 where
@@ -40,4 +42,5 @@ mutual
   -- the text is the join of so many texts that the pattern matches
   pub data Joined : Tree → ℕ → Text → Type 0 where
     no_text : (part : Tree) → Joined part 0 []
-    next_text : (part : Tree) (n : ℕ) (first rest text : Text) → text ≡ first ++ rest → Matches part first → Joined part n rest → Joined part (suc n) text
+    next_text : (part : Tree) (n : ℕ) (first rest text : Text) → text ≡ first ++ rest → Matches part first → Joined part n rest
+        → Joined part (suc n) text

@@ -1,6 +1,7 @@
 -- The program of a pattern: its single-character parts in order, each as often as the repeats around it
 -- say, and the steps that lead the ways through it.
-use Rattle.std.specs.Prelude.{ℕ, zero, suc, ◌+◌, ◌-◌, ◌==◌, nat_lt, Option, Some, None, Bool, true, false, ◌&&◌, ◌||◌, List, [], ◌∷◌, ◌++◌, length, map, fold, if◌then◌else◌}
+use Rattle.std.specs.Prelude.{ℕ, zero, suc, ◌+◌, ◌-◌, ◌==◌, nat_lt, Option, Some, None, Bool, true, false, ◌&&◌, ◌||◌}
+use Rattle.std.specs.Prelude.{List, [], ◌∷◌, ◌++◌, length, map, fold, if◌then◌else◌}
 use Rattle.pattern_tree.specs.declared.tree.Times.{Times}
 use Rattle.pattern_tree.specs.declared.tree.Tree.{Tree}
 use Rattle.pattern_tree.specs.declared.tree.Tree.TheOpen.{Tree-F}
@@ -22,17 +23,21 @@ nothing = record { ops = []; empty = true }
 abbrev pub beside : Part → Part → Part
 beside p q = record { ops = p.ops ++ q.ops; empty = p.empty && q.empty }
 
+-- all parts one behind the other
 abbrev pub joined : List Part → Part
 joined parts = fold beside nothing parts
 
 -- one more side: its steps, or a note that there is one without steps
 abbrev pub gathered : Sides → Part → Sides
 gathered sides side =
-    if length side.ops == 0 then record sides { blank = true } else record { ops = sides.ops ++ side.ops ++ op.Next ∷ []; empty = sides.empty || side.empty; blank = sides.blank }
+    if length side.ops == 0 then record sides { blank = true }
+    else record { ops = sides.ops ++ side.ops ++ op.Next ∷ []; empty = sides.empty || side.empty; blank = sides.blank }
 
+-- before the first side
 abbrev pub no_sides : Sides
 no_sides = record { ops = []; empty = false; blank = false }
 
+-- all sides
 abbrev pub all_gathered : List Part → Sides
 all_gathered parts = fold gathered no_sides parts
 
@@ -47,6 +52,7 @@ forked sides = record {
 abbrev pub alternated : Sides → Part
 alternated sides = if sides.blank && length sides.ops == 0 then nothing else forked sides
 
+-- one of the sides: the side itself where there is one alone
 abbrev pub chosen : List Part → Part
 chosen (only ∷ []) = only
 chosen parts = alternated (all_gathered parts)
@@ -73,13 +79,14 @@ up_to part least more = record { ops = power least part.ops ++ power more (optio
 abbrev pub from : Part → ℕ → Part
 from part before = record { ops = power before part.ops ++ (endless part part.empty).ops; empty = part.empty }
 
--- a part that has steps, or is to stand a number of times that there is
+-- a part in a number from the least to the greatest, if there is one; a part without steps stays without
 abbrev pub repeated_most : Part → ℕ → Option ℕ → Part
 repeated_most part least (Some most) =
     if nat_lt most least then forked no_sides else if length part.ops == 0 then part else up_to part least (most - least)
 repeated_most part least None =
     if length part.ops == 0 then part else if least == 0 then endless part true else from part (least - 1)
 
+-- a part in a number that the repeat permits
 abbrev pub repeated : Part → Times → Part
 repeated part times = repeated_most part times.least times.most
 
@@ -88,6 +95,7 @@ abbrev pub in_turn : List (ℕ → Part × ℕ) → ℕ → List Part × ℕ
 in_turn [] n = ([], n)
 in_turn (program ∷ programs) n = (let p = program n in let rest = in_turn programs p.1 in (p.0 ∷ rest.0, rest.1))
 
+-- the program at one level
 abbrev pub program_at : Level (ℕ → Part × ℕ) → ℕ → Part × ℕ
 program_at (Tree-F.Set set) n = (single n, n + 1)
 program_at (Tree-F.Sequence parts) n = (joined (in_turn parts n).0, (in_turn parts n).1)
@@ -98,5 +106,6 @@ program_at (Tree-F.Repeat part times) n = (repeated (part n).0 times, (part n).1
 abbrev pub program : Tree → ℕ → Part × ℕ
 program = fold_tree program_at
 
+-- ditto of patterns one after another
 abbrev pub programs : List Tree → ℕ → List Part × ℕ
 programs trees = in_turn (map program trees)

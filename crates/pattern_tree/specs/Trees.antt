@@ -1,5 +1,6 @@
 -- Patterns as trees: which characters a set holds, and how much a pattern weighs.
-use Rattle.std.specs.Prelude.{ℕ, ◌*◌, max, map, unwrap_or, Bool, true, false, not, ◌&&◌, ◌||◌, ◌==◌, nat_le, List, [], ◌∷◌, ◌++◌, sum, if◌then◌else◌}
+use Rattle.std.specs.Prelude.{ℕ, ◌*◌, max, map, unwrap_or, Bool, not, ◌&&◌, ◌||◌, ◌==◌, nat_le, if◌then◌else◌}
+use Rattle.std.specs.Prelude.{List, [], ◌∷◌, ◌++◌, sum}
 use Rattle.std.specs.List.{list_any}
 use Rattle.pattern_tree.specs.declared.tree.Class.{Class}
 use Rattle.pattern_tree.specs.declared.tree.Class.TheVariants as class
@@ -21,7 +22,9 @@ is_digit c = is_within 48 57 c
 
 -- an ASCII letter or digit, or one of $ + < = > ^ | ~ and the grave accent; the underscore is none
 abbrev pub is_word : ℕ → Bool
-is_word c = is_digit c || is_within 65 90 c || is_within 97 122 c || c == 36 || c == 43 || is_within 60 62 c || c == 94 || c == 96 || c == 124 || c == 126
+is_word c =
+    is_digit c || is_within 65 90 c || is_within 97 122 c
+    || c == 36 || c == 43 || is_within 60 62 c || c == 94 || c == 96 || c == 124 || c == 126
 
 -- a tab, a line feed, a carriage return or a space
 abbrev pub is_space : ℕ → Bool
@@ -70,17 +73,19 @@ weight_at (Tree-F.Repeat part times) = part * repeat_weight times
 abbrev pub weight : Tree → ℕ
 weight = fold_tree weight_at
 
+-- the lists one behind the other
 abbrev pub one_after_another : List (List Set) → List Set
 one_after_another [] = []
 one_after_another (sets ∷ others) = sets ++ one_after_another others
 
--- the sets of a pattern's single-character parts, from left to right
+-- at one level: the set of a single-character part, and of any other pattern those of the patterns within
 abbrev pub sets_at : Level (List Set) → List Set
 sets_at (Tree-F.Set set) = set ∷ []
 sets_at (Tree-F.Sequence parts) = one_after_another parts
 sets_at (Tree-F.Choice sides) = one_after_another sides
 sets_at (Tree-F.Repeat part times) = part
 
+-- the sets of a pattern's single-character parts, from left to right
 abbrev pub sets_of : Tree → List Set
 sets_of = fold_tree sets_at
 

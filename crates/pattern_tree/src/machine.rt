@@ -74,7 +74,7 @@ fn hit_of(op: Op, hits: &[bool]) -> bool
     }
 }
 
-/// Keeps a wire, with nothing gathered.
+/// Keeps the wire that came, and what was gathered.
 #[tactic(auto, using(crate::proofs::CodeLemmas::reverse_push))]
 fn keep(kept: &mut Vec<Kept>, came: Wire, gathered: Wire) -> Result<(), Memory>
     ensures { OnOk result (reverse kept.new.items ≡ spec.kept_of came gathered ∷ reverse kept.old.items) }

@@ -35,12 +35,14 @@ struct Room {
 /// The method is that of marked regular expressions (S. Fischer, F. Huch, T. Wilke, A Play on Regular
 /// Expressions, 2010): each single-character part of the pattern, as often as the repeats around it
 /// say, has a mark that tells whether the text so far can end with it, and a character makes all new
-/// marks of the old ones in one pass. All ways are followed at once and none is gone back, so the text
-/// decides nothing about the time. For weight `w`, patterns nested `d` deep and a text of `n`
-/// characters it takes `O(d w)` time to begin with and `O(d w + p)` for each character, `p` being the
-/// size of the pattern, in which each set is asked once for each character; the steps that are no
-/// marks stay below a few for each mark and each level around it. Memory is `O(d w + p)`. The
-/// recursion is as deep as the pattern, and parts that weigh nothing take no steps.
+/// marks of the old ones in one pass. All ways are followed at once and none is gone back, counted
+/// repeats are plain copies, and no automaton is built, so neither the text nor the form of the
+/// pattern decides about the time. For a tree of weight `w` that is `d` deep and has `p` nodes and parts
+/// of sets it takes `O(d d w + p)` time to begin with and `O(d w + p)` for each character of the text: a
+/// pass has one step for each mark and at most four further ones for each alternation and each repeat
+/// around it, and each set is asked once for a character. Memory is `O(d w + p)`, whatever the text. The
+/// recursion is as deep as the tree. A part with no set in it takes no steps, unless an alternation
+/// without sides is within.
 pub fn matches(alloc: Global, tree: &Tree, text: &str) -> Result<bool, Memory>
     ensures { IfOk result (λ answer. IsTrue answer ↔ Matches tree.now (chars text.now)) }
 {
@@ -79,7 +81,8 @@ fn take(
 ) -> Result<(), Memory>
     requires { vec_len progress.old.marks ≡ length ops.now }
     ensures size { vec_len progress.new.marks ≡ length ops.now }
-    ensures reached { OnOk result (reached_of progress.new ≡ taken (hits_in (sets_of tree.now)) ops.now (reached_of progress.old) c) }
+    ensures reached { OnOk result
+        (reached_of progress.new ≡ taken (hits_in (sets_of tree.now)) ops.now (reached_of progress.old) c) }
 {
     room.hits.clear();
     push_hits(tree, c, &mut room.hits)?;

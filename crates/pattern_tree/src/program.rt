@@ -27,7 +27,7 @@ pub(crate) enum Op {
 /// The program of a pattern or of a part of it.
 #[derive(Debug, Drop)]
 pub(crate) struct Part {
-    /// The steps; none where the pattern weighs nothing and matches the empty text alone.
+    /// The steps; where there are none, it matches the empty text alone.
     pub(crate) ops: Items<Op>,
     /// Whether it matches the empty text.
     pub(crate) empty: bool,
@@ -45,8 +45,8 @@ struct Sides {
 }
 
 /// The program of the pattern, and of which sets: `sets` is the number of those that stand before it,
-/// and then of those up to its end. The recursion is as deep as the pattern. `O(d n)` for depth `d` and
-/// weight `n`.
+/// and then of those up to its end. The recursion is as deep as the pattern. `O(d d w + p)` for
+/// depth `d`, weight `w` and size `p`.
 #[cycle(compile)]
 pub(crate) fn compile(alloc: Global, tree: &Tree, sets: &mut usize) -> Result<Part, Memory>
     ensures { IfOk result (λ part. spec.program tree.now sets.old ≡ (part, sets.new)) }

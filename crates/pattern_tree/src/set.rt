@@ -1,6 +1,7 @@
 ghost use Rattle.std.specs.Prelude.{◌≡◌, map, ◌++◌, OnOk};
 ghost use Rattle.std.specs.List.{list_any};
-ghost use Rattle.pattern_tree.specs.Trees.{is_digit, is_word, is_space, is_of_class, is_in_part, is_of, sets_of, one_after_another, hits_in};
+ghost use Rattle.pattern_tree.specs.Trees.{is_digit, is_word, is_space, is_of_class, is_in_part, is_of};
+ghost use Rattle.pattern_tree.specs.Trees.{sets_of, one_after_another, hits_in};
 
 use crate::tree::{Class, Part, Set, Tree};
 use ifc_base::Memory;

@@ -1,4 +1,4 @@
-use Rattle.std.proofs.Common.{◌∙◌, sym, ap, length, arith, length-set}
+use Rattle.std.proofs.Common.{◌∙◌, sym, arith, length-set}
 use Rattle.pattern_tree.proofs.RunLemmas.{run_turn, run_end}
 use Rattle.pattern_tree.proofs.machine.pass.Goals as goal
 

@@ -7,13 +7,16 @@ use Rattle.std.proofs.lemmas.Grind.{common_steps}
 use Rattle.ifc_base.specs.declared.value.Instance.{Instance}
 use Rattle.shelf_io.specs.Causes.{Rose}
 use Rattle.shelf_io.specs.Pieces.{Files, file_told}
+use Rattle.std.proofs.lemmas.Bool.{true≢false}
+use Rattle.audit_model.specs.declared.script.Phase.{Phase}
 use Rattle.audit_model.specs.declared.specification.Specification.{Specification}
 use Rattle.ids_live.specs.declared.ending.Ended.{Ended}
 use Rattle.ids_live.specs.declared.refused.Refused.{Refused}
 use Rattle.ids_live.specs.declared.load.Loaded.{Loaded}
 use Rattle.ids_live.specs.Inputs.{Inputs, IsHeld, AreHeld, loaded_of, first_refusal, limit, model_limit, schema_read, specs_read, model_read, script_read}
 use Rattle.ids_live.specs.Run.{At, IsRun, IsEndOf, IsShelfAfter, IsSinkAfter, is_among}
-use Rattle.ids_live.specs.Complete.{IsComplete, IsSure, wanted}
+use Rattle.ids_live.specs.Complete.{IsComplete, IsPlayable, IsOverfull, IsSure, wanted}
+use Rattle.ids_live.specs.Steps.{meets_full}
 use Rattle.ids_live.specs.Told.{within, input_told, all_inputs, inputs_told}
 use Rattle.ids_live.specs.Words.{Command}
 
@@ -64,7 +67,7 @@ parts_of held command t (Some a) (Some b) None d p q r s e = absurd (cc)
 parts_of held command t (Some a) (Some b) (Some c) None p q r s e = absurd (cc)
 
 -- loading goes up to the first refusal
-first_same : (a : Result (Unit {0}) Refused) (b b' : Result (List Specification) Refused) (c c' : Result (List Instance) Refused) (d d' : Result (Unit {0}) Refused)
+first_same : (a : Result (Unit {0}) Refused) (b b' : Result (List Specification) Refused) (c c' : Result (List Instance) Refused) (d d' : Result (List Phase) Refused)
     → (IsOk a → b ≡ b') → (IsOk a → IsOk b → c ≡ c') → (IsOk a → IsOk b → IsOk c → d ≡ d') → first_refusal a b c d ≡ first_refusal a b' c' d'
 first_same (Err e) b b' c c' d d' p q r = refl
 first_same (Ok x) (Err e) b' c c' d d' p q r = rw (← p refl) refl
@@ -92,71 +95,111 @@ refused_not_ok : (loading : Result Loaded Refused) (P : Refused → Type 0) → 
 refused_not_ok (Ok l) P h = absurd h
 refused_not_ok (Err e) P h = refl
 
+not_filled : (r : Result Loaded Refused) → IsPlayable r → IsOverfull r → ⊥
+not_filled (Ok l) play full = true≢false (sym full ∙ play)
+not_filled (Err refused) play full = play
+
+not_refused : (r : Result Loaded Refused) → IsPlayable r → IsErr r → ⊥
+not_refused (Ok l) play err = let bad : false ≡ true = err in cc
+not_refused (Err refused) play err = play
+
+filled_not_refused : (r : Result Loaded Refused) → IsOverfull r → IsErr r → ⊥
+filled_not_refused (Ok l) full err = let bad : false ≡ true = err in cc
+filled_not_refused (Err refused) full err = full
+
+overfull : (r : Result Loaded Refused) (P : Loaded → Type 0) → MatchResult r (λ l. (meets_full l ≡ true) × P l) (λ refused. ⊥) → IsOverfull r
+overfull (Ok l) P k = k.0
+overfull (Err refused) P k = k
+
 pub complete : (held now : Option Files) (command : Command) (old new : Option (List ℕ)) (before faults sink_before sink_faults : ℕ) (e : Ended) (i t : Inputs) (s : ℕ)
-    → e.status ≡ s → s < 7 → (e.status ≡ 6 → ⊥) → IsShelfAfter held now before faults e → IsSinkAfter sink_before sink_faults e → IsRun held command old new e i
+    → e.status ≡ s → s < 8 → (e.status ≡ 6 → ⊥) → IsShelfAfter held now before faults e → IsSinkAfter sink_before sink_faults e → IsRun held command old new e i
     → inputs_told held command ≡ Some t → IsComplete (loaded_of t) (Rose before faults) (Rose sink_before sink_faults) e.status
 complete held now command old new before faults sink_before sink_faults e i t zero is lt not_six shelf sink run told =
     let same : loaded_of i ≡ loaded_of t = same_loading held command i t (rw is at run.inputs) told in
-    let ok : IsOk (loaded_of t) = rw same at (rw is at run.ends.all_read) in
+    let play : IsPlayable (loaded_of t) = rw same at (rw is at run.ends.room) in
     record {
-      ran = λ h. ok;
+      ran = λ h. play;
+      filled = λ seven. absurd (cc);
       refused = λ two. absurd (cc);
       runs = λ a b c d. rw is refl;
-      refuses = λ err b c d. absurd (not_both (loaded_of t) ok err);
+      fills = λ f b c d. absurd (not_filled (loaded_of t) play f);
+      refuses = λ err b c d. absurd (not_refused (loaded_of t) play err);
     }
 complete held now command old new before faults sink_before sink_faults e i t (suc zero) is lt not_six shelf sink run told =
     let same : loaded_of i ≡ loaded_of t = same_loading held command i t (rw is at run.inputs) told in
-    let ok : IsOk (loaded_of t) = rw same at (rw is at run.ends.all_read) in
+    let play : IsPlayable (loaded_of t) = rw same at (rw is at run.ends.room) in
     record {
-      ran = λ h. ok;
+      ran = λ h. play;
+      filled = λ seven. absurd (cc);
       refused = λ two. absurd (cc);
       runs = λ a b c d. rw is refl;
-      refuses = λ err b c d. absurd (not_both (loaded_of t) ok err);
+      fills = λ f b c d. absurd (not_filled (loaded_of t) play f);
+      refuses = λ err b c d. absurd (not_refused (loaded_of t) play err);
     }
 complete held now command old new before faults sink_before sink_faults e i t (suc (suc zero)) is lt not_six shelf sink run told =
     let same : loaded_of i ≡ loaded_of t = same_loading held command i t (rw is at run.inputs) told in
     let err : IsErr (loaded_of t) = rw same at (refused_not_ok (loaded_of i) _ (rw is at run.ends.refusal)) in
     record {
       ran = λ h. absurd (let bad : false ≡ true = rw is at h in cc);
+      filled = λ seven. absurd (cc);
       refused = λ two. err;
-      runs = λ ok b c d. absurd (not_both (loaded_of t) ok err);
+      runs = λ play b c d. absurd (not_refused (loaded_of t) play err);
+      fills = λ f b c d. absurd (filled_not_refused (loaded_of t) f err);
       refuses = λ h b c d. is;
     }
 complete held now command old new before faults sink_before sink_faults e i t (suc (suc (suc zero))) is lt not_six shelf sink run told =
     let rose : Rose before faults = rw is at shelf.cause in
     record {
       ran = λ h. absurd (let bad : false ≡ true = rw is at h in cc);
+      filled = λ seven. absurd (cc);
       refused = λ two. absurd (cc);
-      runs = λ ok b c d. absurd (b rose);
+      runs = λ play b c d. absurd (b rose);
+      fills = λ f b c d. absurd (b rose);
       refuses = λ h b c d. absurd (b rose);
     }
 complete held now command old new before faults sink_before sink_faults e i t (suc (suc (suc (suc zero)))) is lt not_six shelf sink run told =
     let rose : Rose sink_before sink_faults = rw is at sink.cause in
     record {
       ran = λ h. absurd (let bad : false ≡ true = rw is at h in cc);
+      filled = λ seven. absurd (cc);
       refused = λ two. absurd (cc);
-      runs = λ ok b c d. absurd (c rose);
+      runs = λ play b c d. absurd (c rose);
+      fills = λ f b c d. absurd (c rose);
       refuses = λ h b c d. absurd (c rose);
     }
 complete held now command old new before faults sink_before sink_faults e i t (suc (suc (suc (suc (suc zero))))) is lt not_six shelf sink run told =
     record {
       ran = λ h. absurd (let bad : false ≡ true = rw is at h in cc);
+      filled = λ seven. absurd (cc);
       refused = λ two. absurd (cc);
-      runs = λ ok b c d. absurd (d is);
+      runs = λ play b c d. absurd (d is);
+      fills = λ f b c d. absurd (d is);
       refuses = λ h b c d. absurd (d is);
     }
-complete held now command old new before faults sink_before sink_faults e i t (suc (suc (suc (suc (suc (suc zero)))))) is lt not_six shelf sink run told = absurd (not_six is)
-complete held now command old new before faults sink_before sink_faults e i t (suc (suc (suc (suc (suc (suc (suc s))))))) is lt not_six shelf sink run told = absurd (omega arith)
+complete held now command old new before faults sink_before sink_faults e i t (suc (suc (suc (suc (suc (suc zero)))))) is lt not_six shelf sink run told =
+    absurd (not_six is)
+complete held now command old new before faults sink_before sink_faults e i t (suc (suc (suc (suc (suc (suc (suc zero))))))) is lt not_six shelf sink run told =
+    let same : loaded_of i ≡ loaded_of t = same_loading held command i t (rw is at run.inputs) told in
+    let full : IsOverfull (loaded_of t) = rw same at (overfull (loaded_of i) _ (rw is at run.ends.full)) in
+    record {
+      ran = λ h. absurd (let bad : false ≡ true = rw is at h in cc);
+      filled = λ seven. full;
+      refused = λ two. absurd (cc);
+      runs = λ play b c d. absurd (not_filled (loaded_of t) play full);
+      fills = λ f b c d. is;
+      refuses = λ err b c d. absurd (filled_not_refused (loaded_of t) full err);
+    }
+complete held now command old new before faults sink_before sink_faults e i t (suc (suc (suc (suc (suc (suc (suc (suc s)))))))) is lt not_six shelf sink run told = absurd (omega arith)
 
 told_complete : (held now : Option Files) (command : Command) (old new : Option (List ℕ)) (before faults sink_before sink_faults : ℕ) (e : Ended) (i : Inputs) (told : Option Inputs)
-    → inputs_told held command ≡ told → e.status < 7 → (e.status ≡ 6 → ⊥) → IsShelfAfter held now before faults e → IsSinkAfter sink_before sink_faults e
+    → inputs_told held command ≡ told → e.status < 8 → (e.status ≡ 6 → ⊥) → IsShelfAfter held now before faults e → IsSinkAfter sink_before sink_faults e
     → IsRun held command old new e i → IfSome told (λ t. IsComplete (loaded_of t) (Rose before faults) (Rose sink_before sink_faults) e.status)
 told_complete held now command old new before faults sink_before sink_faults e i None is lt not_six shelf sink run = tt
 told_complete held now command old new before faults sink_before sink_faults e i (Some t) is lt not_six shelf sink run =
     complete held now command old new before faults sink_before sink_faults e i t e.status refl lt not_six shelf sink run is
 
 pub all_complete : (o : Option Command) (held now : Option Files) (old new : Option (List ℕ)) (before faults sink_before sink_faults : ℕ) (e : Ended)
-    → e.status < 7 → (e.status ≡ 6 → o ≡ None) → IsShelfAfter held now before faults e → IsSinkAfter sink_before sink_faults e
+    → e.status < 8 → (e.status ≡ 6 → o ≡ None) → IsShelfAfter held now before faults e → IsSinkAfter sink_before sink_faults e
     → IfSome o (λ command. (i : Inputs) × IsRun held command old new e i)
     → IfSome o (λ command. IfSome (inputs_told held command) (λ t. IsComplete (loaded_of t) (Rose before faults) (Rose sink_before sink_faults) e.status))
 all_complete None held now old new before faults sink_before sink_faults e lt words shelf sink run = tt
@@ -164,7 +207,7 @@ all_complete (Some command) held now old new before faults sink_before sink_faul
     told_complete held now command old new before faults sink_before sink_faults e run.0 (inputs_told held command) refl lt (λ six. let bad : Some command ≡ None = words six in absurd (cc)) shelf sink run.1
 
 sure_by : (held now : Option Files) (command : Command) (steady : Type 0) (sure : ℕ → Type 0) (before faults sink_before sink_faults : ℕ) (e : Ended) (i t : Inputs) (s : ℕ)
-    → e.status ≡ s → s < 7 → IsShelfAfter held now before faults e → IsSinkAfter sink_before sink_faults e → inputs_told held command ≡ Some t
+    → e.status ≡ s → s < 8 → IsShelfAfter held now before faults e → IsSinkAfter sink_before sink_faults e → inputs_told held command ≡ Some t
     → At (3 ∷ []) e.status (steady → inputs_told held command ≡ None) → At (4 ∷ []) e.status (AreHeld held command i × (sure (length (wanted (loaded_of i))) → ⊥))
     → IsSure steady (sure (length (wanted (loaded_of t)))) (faults ≡ before) (sink_faults ≡ sink_before) e.status
 sure_by held now command steady sure before faults sink_before sink_faults e i t zero is lt shelf sink told untold room =
@@ -184,10 +227,12 @@ sure_by held now command steady sure before faults sink_before sink_faults e i t
     record { reads = λ h. (rw is at shelf.calm, λ three. absurd (cc)); writes = λ h. (rw is at sink.calm, λ four. absurd (cc)) }
 sure_by held now command steady sure before faults sink_before sink_faults e i t (suc (suc (suc (suc (suc (suc zero)))))) is lt shelf sink told untold room =
     record { reads = λ h. (rw is at shelf.calm, λ three. absurd (cc)); writes = λ h. (rw is at sink.calm, λ four. absurd (cc)) }
-sure_by held now command steady sure before faults sink_before sink_faults e i t (suc (suc (suc (suc (suc (suc (suc s))))))) is lt shelf sink told untold room = absurd (omega arith)
+sure_by held now command steady sure before faults sink_before sink_faults e i t (suc (suc (suc (suc (suc (suc (suc zero))))))) is lt shelf sink told untold room =
+    record { reads = λ h. (rw is at shelf.calm, λ three. absurd (cc)); writes = λ h. (rw is at sink.calm, λ four. absurd (cc)) }
+sure_by held now command steady sure before faults sink_before sink_faults e i t (suc (suc (suc (suc (suc (suc (suc (suc s)))))))) is lt shelf sink told untold room = absurd (omega arith)
 
 told_sure : (held now : Option Files) (command : Command) (steady : Type 0) (sure : ℕ → Type 0) (before faults sink_before sink_faults : ℕ) (e : Ended) (i : Inputs) (told : Option Inputs)
-    → inputs_told held command ≡ told → e.status < 7 → IsShelfAfter held now before faults e → IsSinkAfter sink_before sink_faults e
+    → inputs_told held command ≡ told → e.status < 8 → IsShelfAfter held now before faults e → IsSinkAfter sink_before sink_faults e
     → At (3 ∷ []) e.status (steady → inputs_told held command ≡ None) → At (4 ∷ []) e.status (AreHeld held command i × (sure (length (wanted (loaded_of i))) → ⊥))
     → IfSome told (λ t. IsSure steady (sure (length (wanted (loaded_of t)))) (faults ≡ before) (sink_faults ≡ sink_before) e.status)
 told_sure held now command steady sure before faults sink_before sink_faults e i None is lt shelf sink untold room = tt
@@ -195,7 +240,7 @@ told_sure held now command steady sure before faults sink_before sink_faults e i
     sure_by held now command steady sure before faults sink_before sink_faults e i t e.status refl lt shelf sink is untold room
 
 pub all_sure : (o : Option Command) (held now : Option Files) (steady : Type 0) (sure : ℕ → Type 0) (before faults sink_before sink_faults : ℕ) (e : Ended)
-    → e.status < 7 → IsShelfAfter held now before faults e → IsSinkAfter sink_before sink_faults e
+    → e.status < 8 → IsShelfAfter held now before faults e → IsSinkAfter sink_before sink_faults e
     → IfSome o (λ command. At (3 ∷ []) e.status (steady → inputs_told held command ≡ None))
     → IfSome o (λ command. (i : Inputs) × At (4 ∷ []) e.status (AreHeld held command i × (sure (length (wanted (loaded_of i))) → ⊥)))
     → IfSome o (λ command. IfSome (inputs_told held command) (λ t. IsSure steady (sure (length (wanted (loaded_of t)))) (faults ≡ before) (sink_faults ≡ sink_before) e.status))

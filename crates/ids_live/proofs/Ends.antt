@@ -1,144 +1,82 @@
 -- The ends of a run.
-use Rattle.std.proofs.Common.{◌≡◌, ℕ, ◌+◌, reverse, List, [], ◌∷◌, ◌++◌, length, length-append, take, drop, ◌-◌, codes, Bool, true, false, Option, Result, Ok, Err, refl, ap, sym, subst, ◌∙◌, arith, rules}
-use Rattle.std.specs.Prelude.{if◌then◌else◌, Some, None, IfSome}
-use Rattle.std.proofs.lemmas.List.{take_all}
-use Rattle.std.proofs.Math.Seq.{drop-append_seam}
-use Rattle.std.proofs.lemmas.Grind.{common_steps}
-use Rattle.ifc_base.specs.declared.value.Instance.{Instance}
+use Rattle.std.proofs.Common.{◌≡◌, ℕ, ◌+◌, reverse, List, [], ◌∷◌, ◌++◌, length, take, Bool, true, false, ◌&&◌, ◌||◌, ◌==◌, Option, Result, Ok, Err, refl, ap, sym, subst, ◌∙◌, arith, rules}
+use Rattle.std.specs.Prelude.{if◌then◌else◌, Some, None, IfSome, IfOk}
+use Rattle.std.specs.Bool.{OnTrue}
+use Rattle.std.proofs.lemmas.Bool.{eqb-true, lt-ltb}
+use Rattle.std.proofs.lemmas.List.{append-nil, reverse-reverse}
 use Rattle.shelf_io.specs.Pieces.{Files, Appended}
 use Rattle.audit_model.specs.declared.specification.Specification.{Specification}
 use Rattle.audit_model.specs.declared.step.StepRec.{StepRec}
-use Rattle.audit_model.specs.declared.verdict.Pair.{Pair}
-use Rattle.audit_model.specs.Pairs.{pairs}
-use Rattle.audit_model.specs.Report.{audit_text, report_text, all_pass, line, pass_word, tallies_lines}
-use Rattle.audit_model.specs.Scratch.{scratch}
-use Rattle.std.specs.Fmt.{decimal}
+use Rattle.audit_model.specs.History.{Ground}
+use Rattle.audit_model.specs.Machine.{Legal}
+use Rattle.audit_model.specs.Models.{IsModel}
+use Rattle.audit_model.specs.Output.{output as text_of}
+use Rattle.audit_model.specs.Serial.{serial as history_of, meets_full as is_filled}
+use Rattle.audit_model.specs.Specifications.{HaveFewFacets}
+use Rattle.audit_run.specs.Holding.{HaveFewRequirements}
+use Rattle.serial_run.specs.declared.run.End.{End}
+use Rattle.serial_run.specs.declared.run.End.TheVariants as ending
+use Rattle.serial_run.specs.declared.run.Ran.{Ran}
+use Rattle.serial_run.specs.Growth.{IsLater, returned}
+use Rattle.serial_run.specs.Phased.{ArePhases, ScriptIsPhased}
+use Rattle.serial_run.specs.Runs.{ends_pass, script_history, IsWhole, IsUnwritten, IsFull, IsLeft, IsEndedBy, IsRan, IsWritten}
 use Rattle.ids_live.specs.declared.ending.Ended.{Ended}
 use Rattle.ids_live.specs.declared.refused.Refused.{Refused}
 use Rattle.ids_live.specs.declared.load.Loaded.{Loaded}
-use Rattle.audit_model.specs.Drain.{drain_from, DrainOfFile}
-use Rattle.audit_model.specs.Machine.{Legal}
-use Rattle.ids_live.specs.Drain.{drain}
 use Rattle.ids_live.specs.Fitness.{IsFit}
 use Rattle.ids_live.specs.Lines.{refused_line}
-use Rattle.ids_live.specs.Steps.{ground_of, serial, output, ends_pass, IsStopped}
+use Rattle.ids_live.specs.Steps.{ground_of, serial, meets_full, output, status_at}
 use Rattle.ids_live.specs.Words.{Command}
 use Rattle.ids_live.specs.Inputs.{Inputs, loaded_of}
 use Rattle.ids_live.specs.Complete.{wanted}
-use Rattle.ids_live.specs.Run.{At, IsEndOf, IsRun, is_among}
-
--- the turns have no text, and the end of the drain has that of the report
-text_drain : (l : Loaded) (n : ℕ) (ps : List Pair) → output l (drain_from n 0 ps) ≡ audit_text l.specs l.model 0
-unfolding output
-text_drain l n [] = grind (arith, common_steps)
-text_drain l n (p ∷ ps) = text_drain l (n + 1) ps
-
--- the text of the history that the inputs make
-pub output_serial : (l : Loaded) → output l (serial l) ≡ audit_text l.specs l.model 0
-unfolding serial
-output_serial l = text_drain l 1 (pairs l.specs l.model)
-
-pub output_none : (l : Loaded) → output l [] ≡ []
-unfolding output
-output_none l = refl
-
-pub serial_is : (l : Loaded) (steps : List StepRec) → steps ≡ drain l.specs l.model → steps ≡ serial l
-unfolding serial
-serial_is l steps h = h
-
--- the whole is a front of itself
-pub whole_stopped : (whole steps : List StepRec) → steps ≡ whole → IsStopped whole steps
-unfolding IsStopped
-whole_stopped whole steps h = (length whole, rw h (sym (take_all (length whole) whole (omega arith))))
-
--- the drain of what was loaded is a legal history
-pub serial_legal : (l : Loaded) → IsFit l → DrainOfFile → Legal (ground_of l) (reverse (serial l))
-unfolding serial
-serial_legal l fit law = (law (ground_of l) fit.specs.numbered fit.model).1
+use Rattle.ids_live.specs.Run.{At, IfSteps, IsEndOf, IsRun, is_among}
 
 -- an end without a step, where no more is said at its status than that nothing was written
+legal_none : (read : Result Loaded Refused) (journal : List StepRec) → journal ≡ [] → IfOk read (λ l. Legal (ground_of l) (reverse journal))
+legal_none (Err refused) journal none = tt
+legal_none (Ok l) journal none = rw none tt
+
 pub early_end : (read : Result Loaded Refused) (old new : Option (List ℕ)) (e : Ended) → e.journal ≡ [] → e.status ≡ 5 → new ≡ old → IsEndOf read old new e
-early_end read old new e none five same = record {
-  all_read = rw five tt;
-  history = rw five tt;
-  legal = rw five tt;
-  text = rw five tt;
-  verdict = rw five tt;
-  refusal = rw five tt;
-  sink = rw five tt;
-  memory = rw (five, none) same;
+early_end read old new e none status same = record {
+  all_read = rw status tt;
+  room = rw status tt;
+  history = rw status tt;
+  phases = rw status tt;
+  legal = rw status (legal_none read e.journal none);
+  text = rw status tt;
+  verdict = rw status tt;
+  full = rw status tt;
+  refusal = rw status tt;
+  sink = rw status tt;
+  memory = rw (status, none) same;
 }
 
 pub shelf_end : (read : Result Loaded Refused) (old new : Option (List ℕ)) (e : Ended) → e.status ≡ 3 → IsEndOf read old new e
-shelf_end read old new e three = record {
-  all_read = rw three tt;
-  history = rw three tt;
-  legal = rw three tt;
-  text = rw three tt;
-  verdict = rw three tt;
-  refusal = rw three tt;
-  sink = rw three tt;
-  memory = rw three tt;
+shelf_end read old new e status = record {
+  all_read = rw status tt;
+  room = rw status tt;
+  history = rw status tt;
+  phases = rw status tt;
+  legal = rw status tt;
+  text = rw status tt;
+  verdict = rw status tt;
+  full = rw status tt;
+  refusal = rw status tt;
+  sink = rw status tt;
+  memory = rw status tt;
 }
-
--- all was done
-pub done_end : (l : Loaded) (old new : Option (List ℕ)) (e : Ended) (text : List ℕ) → Legal (ground_of l) (reverse (serial l)) → e.journal ≡ drain l.specs l.model → text ≡ audit_text l.specs l.model 0 → Appended old new text
-    → (passes : Bool) → passes ≡ ends_pass text → e.status ≡ (if passes then 0 else 1) → IsEndOf (Ok l) old new e
-done_end l old new e text lawful steps is written true passes status =
-    let told : e.journal ≡ serial l = serial_is l e.journal steps in
-    let all : text ≡ output l e.journal = is ∙ sym (output_serial l) ∙ ap (output l) (sym told) in
-    record {
-      all_read = rw status refl;
-      history = rw status told;
-      legal = rw (status, told) lawful;
-      text = rw status (rw all at written);
-      verdict = rw status (rw (← all, ← passes) refl);
-      refusal = rw status tt;
-      sink = rw status tt;
-      memory = rw status tt;
-    }
-done_end l old new e text lawful steps is written false passes status =
-    let told : e.journal ≡ serial l = serial_is l e.journal steps in
-    let all : text ≡ output l e.journal = is ∙ sym (output_serial l) ∙ ap (output l) (sym told) in
-    record {
-      all_read = rw status refl;
-      history = rw status told;
-      legal = rw (status, told) lawful;
-      text = rw status (rw all at written);
-      verdict = rw status (rw (← all, ← passes) refl);
-      refusal = rw status tt;
-      sink = rw status tt;
-      memory = rw status tt;
-    }
-
--- the sink failed in the output
-pub cut_end : (l : Loaded) (old new : Option (List ℕ)) (e : Ended) (text : List ℕ) (n : ℕ) → e.journal ≡ drain l.specs l.model → text ≡ audit_text l.specs l.model 0 → Appended old new (take n text)
-    → e.status ≡ 4 → IsEndOf (Ok l) old new e
-cut_end l old new e text n steps is written status =
-    let told : e.journal ≡ serial l = serial_is l e.journal steps in
-    let all : text ≡ output l e.journal = is ∙ sym (output_serial l) ∙ ap (output l) (sym told) in
-    record {
-      all_read = rw status tt;
-      history = rw status tt;
-      legal = rw status tt;
-      text = rw status tt;
-      verdict = rw status tt;
-      refusal = rw status tt;
-      sink = rw status (record {
-        steps = whole_stopped (serial l) e.journal told;
-        written = record { early = []; last = e.journal; count = n; split = refl; written = rw (output_none l) (rw all at written) };
-      });
-      memory = rw status tt;
-    }
 
 -- the line of a refused input was written
 pub refused_end : (refused : Refused) (old new : Option (List ℕ)) (e : Ended) → e.journal ≡ [] → Appended old new (refused_line refused) → e.status ≡ 2 → IsEndOf (Err refused) old new e
 refused_end refused old new e none written status = record {
   all_read = rw status tt;
+  room = rw status tt;
   history = rw status tt;
+  phases = rw status tt;
   legal = rw status tt;
   text = rw status tt;
   verdict = rw status tt;
+  full = rw status tt;
   refusal = rw status (none, written);
   sink = rw status tt;
   memory = rw status tt;
@@ -148,10 +86,13 @@ refused_end refused old new e none written status = record {
 pub refused_cut : (refused : Refused) (old new : Option (List ℕ)) (e : Ended) (n : ℕ) → e.journal ≡ [] → Appended old new (take n (refused_line refused)) → e.status ≡ 4 → IsEndOf (Err refused) old new e
 refused_cut refused old new e n none written status = record {
   all_read = rw status tt;
+  room = rw status tt;
   history = rw status tt;
+  phases = rw status tt;
   legal = rw status tt;
   text = rw status tt;
   verdict = rw status tt;
+  full = rw status tt;
   refusal = rw status tt;
   sink = rw status (none, (n, written));
   memory = rw status tt;
@@ -174,27 +115,186 @@ shelf_run None held old e three = tt
 shelf_run (Some command) held old e three =
     (no_inputs, record { inputs = rw three tt; inputs_in_steps = rw three tt; ends = shelf_end (loaded_of no_inputs) old old e three })
 
--- ---- the last line of a report
+-- ---- the script was run
 
-last_nine : (xs ys : List ℕ) → length ys ≡ 9 → drop (length (xs ++ ys) - 9) (xs ++ ys) ≡ ys
-last_nine xs ys nine = let total : length (xs ++ ys) - 9 ≡ length xs = omega (arith, length-append xs ys, nine) in rw total (drop-append_seam xs ys)
+pub serial_of : (l : Loaded) → serial l ≡ history_of (ground_of l) l.phases
+unfolding serial
+serial_of l = refl
 
-pub ends_as : (front : List ℕ) (passed : Bool) → ends_pass (front ++ line (codes "end " ++ pass_word passed)) ≡ passed
-unfolding ends_pass
-ends_as front true = rw (last_nine front (line (codes "end pass")) refl) refl
-ends_as front false = rw (last_nine front (line (codes "end fail")) refl) refl
+pub full_of : (l : Loaded) → meets_full l ≡ is_filled (ground_of l) l.phases
+unfolding meets_full
+full_of l = refl
 
--- the report ends with `end pass` exactly where every specification passes
-pub audit_passes : (l : Loaded) (revision : ℕ) → ends_pass (audit_text l.specs l.model revision) ≡ all_pass (scratch l.specs l.model)
-unfolding report_text
-audit_passes l revision =
-    ends_as (line (codes "report " ++ decimal revision) ++ tallies_lines 1 (scratch l.specs l.model)) (all_pass (scratch l.specs l.model))
+pub output_of : (l : Loaded) (journal : List StepRec) → output l journal ≡ text_of (ground_of l) journal
+unfolding output
+output_of l journal = refl
+
+-- All phases were done.
+
+-- what a run of all phases leaves, at the status 0 or 1
+record IsPlayed (l : Loaded) (old new : Option (List ℕ)) (e : Ended) : Type 0 where
+  pub room : meets_full l ≡ false
+  pub history : e.journal ≡ serial l
+  pub phases : ArePhases l.phases e.journal
+  pub legal : Legal (ground_of l) (reverse e.journal)
+  pub text : Appended old new (output l e.journal)
+  pub verdict : e.status ≡ (if ends_pass (output l e.journal) then 0 else 1)
+
+played_0 : (l : Loaded) (old new : Option (List ℕ)) (e : Ended) → IsPlayed l old new e → e.status ≡ 0 → IsEndOf (Ok l) old new e
+played_0 l old new e k status = record {
+  all_read = rw status refl;
+  room = rw status k.room;
+  history = rw status k.history;
+  phases = rw status k.phases;
+  legal = rw status k.legal;
+  text = rw status k.text;
+  verdict = rw status (sym status ∙ k.verdict);
+  full = rw status tt;
+  refusal = rw status tt;
+  sink = rw status tt;
+  memory = rw status tt;
+}
+
+played_1 : (l : Loaded) (old new : Option (List ℕ)) (e : Ended) → IsPlayed l old new e → e.status ≡ 1 → IsEndOf (Ok l) old new e
+played_1 l old new e k status = record {
+  all_read = rw status refl;
+  room = rw status k.room;
+  history = rw status k.history;
+  phases = rw status k.phases;
+  legal = rw status k.legal;
+  text = rw status k.text;
+  verdict = rw status (sym status ∙ k.verdict);
+  full = rw status tt;
+  refusal = rw status tt;
+  sink = rw status tt;
+  memory = rw status tt;
+}
+
+is_played : (l : Loaded) (old new : Option (List ℕ)) (e : Ended) (b : Bool) → IsFit l → ScriptIsPhased → IsModel (ground_of l).first → IsWhole (ground_of l) l.phases old new e.journal → Legal (ground_of l) (reverse e.journal) → ends_pass (text_of (ground_of l) e.journal) ≡ b → e.status ≡ (if b then 0 else 1) → IsPlayed l old new e
+is_played l old new e b fit law model w legal passes status = record {
+  room = full_of l ∙ w.not_full;
+  history = w.journal_is ∙ sym (serial_of l);
+  phases = subst (λ (es : List StepRec). ArePhases l.phases es) (sym w.journal_is) (law (ground_of l) l.phases fit.specs.numbered model fit.order w.not_full);
+  legal = legal;
+  text = subst (λ (xs : List ℕ). Appended old new xs) (sym (output_of l e.journal)) w.text;
+  verdict = status ∙ ap (λ (x : Bool). if x then 0 else 1) (sym passes ∙ sym (ap (λ (xs : List ℕ). ends_pass xs) (output_of l e.journal)));
+}
+
+-- The sink failed in the text of a phase.
+unwritten_end : (l : Loaded) (old new : Option (List ℕ)) (e : Ended) → IsUnwritten (ground_of l) l.phases old new e.journal → Legal (ground_of l) (reverse e.journal) → e.status ≡ 4 → IsEndOf (Ok l) old new e
+unwritten_end l old new e u legal status = record {
+  all_read = rw status tt;
+  room = rw status tt;
+  history = rw status tt;
+  phases = rw status tt;
+  legal = rw status legal;
+  text = rw status tt;
+  verdict = rw status tt;
+  full = rw status tt;
+  refusal = rw status tt;
+  sink = rw status u;
+  memory = rw status tt;
+}
+
+-- A call would have been answered Full.
+full_end : (l : Loaded) (old new : Option (List ℕ)) (e : Ended) → IsFull (ground_of l) l.phases old new e.journal → Legal (ground_of l) (reverse e.journal) → e.status ≡ 7 → IsEndOf (Ok l) old new e
+full_end l old new e u legal status =
+    let back : reverse e.journal ≡ returned (reverse (serial l)) =
+        u.back ∙ ap (λ (h : List StepRec). returned h) (sym (ap (λ (es : List StepRec). reverse es) (serial_of l) ∙ reverse-reverse (script_history (ground_of l) l.phases))) in
+    let text : Appended old new (output l e.journal) = subst (λ (xs : List ℕ). Appended old new xs) (sym (output_of l e.journal)) u.text in
+    record {
+      all_read = rw status refl;
+      room = rw status tt;
+      history = rw status tt;
+      phases = rw status tt;
+      legal = rw status legal;
+      text = rw status text;
+      verdict = rw status tt;
+      full = rw status (full_of l ∙ u.full, back);
+      refusal = rw status tt;
+      sink = rw status tt;
+      memory = rw status tt;
+    }
+
+-- Memory was wanting.
+
+-- without an entry nothing was written
+nothing_early : (h : List StepRec) → IsLater h [] → h ≡ []
+nothing_early [] later = refl
+nothing_early (x ∷ xs) later = no_entry later.0 later.1 where
+  no_entry : (es : List StepRec) → [] ≡ es ++ (x ∷ xs) → x ∷ xs ≡ []
+  no_entry [] e = absurd (cc)
+  no_entry (y ∷ ys) e = absurd (cc)
+
+appended_nothing : (old new : Option (List ℕ)) → Appended old new [] → new ≡ old
+appended_nothing None new a = a
+appended_nothing (Some w) new a = a ∙ ap (λ (xs : List ℕ). Some xs) (append-nil w)
+
+left_steps : (l : Loaded) (old new : Option (List ℕ)) (journal : List StepRec) → IsLeft (ground_of l) l.phases old new journal → IfSteps journal (new ≡ old) (IsLeft (ground_of l) l.phases old new journal)
+left_steps l old new [] u =
+    let none : u.early ≡ [] = nothing_early u.early u.later in
+    appended_nothing old new (subst (λ (h : List StepRec). Appended old new (text_of (ground_of l) (reverse h))) none u.written)
+left_steps l old new (e ∷ es) u = u
+
+left_end : (l : Loaded) (old new : Option (List ℕ)) (e : Ended) → IsLeft (ground_of l) l.phases old new e.journal → Legal (ground_of l) (reverse e.journal) → e.status ≡ 5 → IsEndOf (Ok l) old new e
+left_end l old new e u legal status = record {
+  all_read = rw status tt;
+  room = rw status tt;
+  history = rw status tt;
+  phases = rw status tt;
+  legal = rw status legal;
+  text = rw status tt;
+  verdict = rw status tt;
+  full = rw status tt;
+  refusal = rw status tt;
+  sink = rw status tt;
+  memory = rw status (left_steps l old new e.journal u);
+}
+
+-- All ends of a run.
+ended_by : (l : Loaded) (old new : Option (List ℕ)) (e : Ended) (end : End) → IsFit l → ScriptIsPhased → IsModel (ground_of l).first → IsEndedBy (ground_of l) l.phases old new e.journal end → Legal (ground_of l) (reverse e.journal) → e.status ≡ status_at end → IsEndOf (Ok l) old new e
+ended_by l old new e ending.Passed fit law model k legal status = played_0 l old new e (is_played l old new e true fit law model k.0 legal k.1 status) status
+ended_by l old new e ending.Failed fit law model k legal status = played_1 l old new e (is_played l old new e false fit law model k.0 legal k.1 status) status
+ended_by l old new e ending.Unwritten fit law model k legal status = unwritten_end l old new e k legal status
+ended_by l old new e ending.Memory fit law model k legal status = left_end l old new e k legal status
+ended_by l old new e ending.Full fit law model k legal status = full_end l old new e k legal status
+
+pub play_end : (l : Loaded) (g : Ground) (old new : Option (List ℕ)) (ran : Ran) (e : Ended) → g ≡ ground_of l → IsFit l → ScriptIsPhased → IsModel g.first → IsRan g l.phases old new ran → e.journal ≡ ran.journal → e.status ≡ status_at ran.end → IsEndOf (Ok l) old new e
+play_end l g old new ran e same fit law model k journal status =
+    let r : IsRan (ground_of l) l.phases old new ran = subst (λ (x : Ground). IsRan x l.phases old new ran) same k in
+    ended_by l old new e ran.end fit law (subst (λ (x : Ground). IsModel x.first) same model)
+    (subst (λ (es : List StepRec). IsEndedBy (ground_of l) l.phases old new es ran.end) (sym journal) r.ended)
+    (subst (λ (es : List StepRec). Legal (ground_of l) (reverse es)) (sym journal) r.legal) status
+
+-- the sink was sure, and so it didn't fail
+pub never_unwritten : (end : End) (n : ℕ) → IsWritten end → n ≡ status_at end → n ≡ 4 → ⊥
+never_unwritten ending.Passed n w is four = absurd (cc)
+never_unwritten ending.Failed n w is four = absurd (cc)
+never_unwritten ending.Unwritten n w is four = w
+never_unwritten ending.Memory n w is four = absurd (cc)
+never_unwritten ending.Full n w is four = absurd (cc)
+
+four : (n : ℕ) (b : Bool) → (4 == n) ≡ b → (b || false) ≡ true → n ≡ 4
+four n true e t = sym (eqb-true 4 n e)
+four n false e t = absurd (cc)
+
+on_true : (b : Bool) (P : Type 0) → (b ≡ true → P) → OnTrue b P
+on_true true P f = f refl
+on_true false P f = tt
+
+pub at_4 : (n : ℕ) (P : Type 0) → (n ≡ 4 → P) → At (4 ∷ []) n P
+at_4 n P f = on_true (is_among (4 ∷ []) n) P (λ t. f (four n (4 == n) refl t))
+
+-- each specification has few requirements
+pub few_requirements : (qs : List Specification) → HaveFewFacets qs → HaveFewRequirements qs
+few_requirements [] k = refl
+few_requirements (q ∷ qs) k = λ i. lt-ltb (length q.requirements) 4294967295 (omega (arith, k.1)) i && few_requirements qs k.2 i
 
 -- ---- what is to be written
 
-pub wanted_text : (l : Loaded) → wanted (Ok l) ≡ audit_text l.specs l.model 0
+pub wanted_text : (l : Loaded) → wanted (Ok l) ≡ text_of (ground_of l) (history_of (ground_of l) l.phases)
 unfolding wanted
-wanted_text l = output_serial l
+wanted_text l = output_of l (serial l) ∙ ap (λ (es : List StepRec). text_of (ground_of l) es) (serial_of l)
 
 pub wanted_line : (refused : Refused) → wanted (Err refused) ≡ refused_line refused
 unfolding wanted

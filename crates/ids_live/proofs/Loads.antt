@@ -4,6 +4,7 @@ use Rattle.std.specs.Prelude.{None, IsOk, true, false}
 use Rattle.shelf_io.specs.Pieces.{Files}
 use Rattle.ifc_base.specs.declared.value.Instance.{Instance}
 use Rattle.audit_model.specs.declared.specification.Specification.{Specification}
+use Rattle.audit_model.specs.declared.script.Phase.{Phase}
 use Rattle.ids_live.specs.declared.refused.Refused.{Refused}
 use Rattle.ids_live.specs.declared.load.Loaded.{Loaded}
 use Rattle.ids_live.specs.declared.stop.Stop.{Stop}
@@ -23,20 +24,20 @@ Loads held command wanted = (i : Inputs) × AreHeld held command i × (loaded_of
 not_ok : {V : Type 0} (r : Result V Refused) (e : Refused) → r ≡ Err e → IsOk r → ⊥
 not_ok r e h ok = let bad : false ≡ true = rw h at ok in cc
 
-first_1 : (e : Refused) (a : Result (Unit {0}) Refused) (b : Result (List Specification) Refused) (c : Result (List Instance) Refused) (d : Result (Unit {0}) Refused) → a ≡ Err e → first_refusal a b c d ≡ Err e
+first_1 : (e : Refused) (a : Result (Unit {0}) Refused) (b : Result (List Specification) Refused) (c : Result (List Instance) Refused) (d : Result (List Phase) Refused) → a ≡ Err e → first_refusal a b c d ≡ Err e
 first_1 e a b c d h = rw h refl
 
-first_2 : (e : Refused) (x : Unit {0}) (a : Result (Unit {0}) Refused) (b : Result (List Specification) Refused) (c : Result (List Instance) Refused) (d : Result (Unit {0}) Refused) → a ≡ Ok x → b ≡ Err e → first_refusal a b c d ≡ Err e
+first_2 : (e : Refused) (x : Unit {0}) (a : Result (Unit {0}) Refused) (b : Result (List Specification) Refused) (c : Result (List Instance) Refused) (d : Result (List Phase) Refused) → a ≡ Ok x → b ≡ Err e → first_refusal a b c d ≡ Err e
 first_2 e x a b c d p h = rw (p, h) refl
 
-first_3 : (e : Refused) (x : Unit {0}) (y : List Specification) (a : Result (Unit {0}) Refused) (b : Result (List Specification) Refused) (c : Result (List Instance) Refused) (d : Result (Unit {0}) Refused) → a ≡ Ok x → b ≡ Ok y → c ≡ Err e → first_refusal a b c d ≡ Err e
+first_3 : (e : Refused) (x : Unit {0}) (y : List Specification) (a : Result (Unit {0}) Refused) (b : Result (List Specification) Refused) (c : Result (List Instance) Refused) (d : Result (List Phase) Refused) → a ≡ Ok x → b ≡ Ok y → c ≡ Err e → first_refusal a b c d ≡ Err e
 first_3 e x y a b c d p q h = rw (p, q, h) refl
 
-first_4 : (e : Refused) (x : Unit {0}) (y : List Specification) (z : List Instance) (a : Result (Unit {0}) Refused) (b : Result (List Specification) Refused) (c : Result (List Instance) Refused) (d : Result (Unit {0}) Refused) → a ≡ Ok x → b ≡ Ok y → c ≡ Ok z → d ≡ Err e → first_refusal a b c d ≡ Err e
+first_4 : (e : Refused) (x : Unit {0}) (y : List Specification) (z : List Instance) (a : Result (Unit {0}) Refused) (b : Result (List Specification) Refused) (c : Result (List Instance) Refused) (d : Result (List Phase) Refused) → a ≡ Ok x → b ≡ Ok y → c ≡ Ok z → d ≡ Err e → first_refusal a b c d ≡ Err e
 first_4 e x y z a b c d p q r h = rw (p, q, r, h) refl
 
-first_all : (x : Unit {0}) (y : List Specification) (z : List Instance) (s : Unit {0}) (a : Result (Unit {0}) Refused) (b : Result (List Specification) Refused) (c : Result (List Instance) Refused) (d : Result (Unit {0}) Refused) → a ≡ Ok x → b ≡ Ok y → c ≡ Ok z → d ≡ Ok s
-    → first_refusal a b c d ≡ Ok (record { specs = y; model = z })
+first_all : (x : Unit {0}) (y : List Specification) (z : List Instance) (s : List Phase) (a : Result (Unit {0}) Refused) (b : Result (List Specification) Refused) (c : Result (List Instance) Refused) (d : Result (List Phase) Refused) → a ≡ Ok x → b ≡ Ok y → c ≡ Ok z → d ≡ Ok s
+    → first_refusal a b c d ≡ Ok (record { specs = y; instances = z; phases = s })
 first_all x y z s a b c d p q r h = rw (p, q, r, h) refl
 
 pub schema_refused : (held : Option Files) (command : Command) (e : Refused) → Given held command.schema limit schema_read (Err e) → Loads held command (Err e)
@@ -90,9 +91,9 @@ script_refused held command e x y z f f' f'' g = (
   first_4 e x y z (schema_read f.0) (specs_read f'.0) (model_read f''.0) (script_read g.0) f.2 f'.2 f''.2 g.2,
 )
 
-pub all_loaded : (held : Option Files) (command : Command) (x : Unit {0}) (y : List Specification) (z : List Instance) (s : Unit {0}) → Given held command.schema limit schema_read (Ok x)
+pub all_loaded : (held : Option Files) (command : Command) (x : Unit {0}) (y : List Specification) (z : List Instance) (s : List Phase) → Given held command.schema limit schema_read (Ok x)
     → Given held command.specs limit specs_read (Ok y) → Given held command.model model_limit model_read (Ok z)
-    → Given held command.script limit script_read (Ok s) → Loads held command (Ok (record { specs = y; model = z }))
+    → Given held command.script limit script_read (Ok s) → Loads held command (Ok (record { specs = y; instances = z; phases = s }))
 unfolding loaded_of
 all_loaded held command x y z s f f' f'' g = (
   record { schema = f.0; specs = f'.0; model = f''.0; script = g.0 },

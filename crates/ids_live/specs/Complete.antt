@@ -1,17 +1,27 @@
 -- Which status a run has over inputs that the shelf tells, and where nothing outside fails.
-use Rattle.std.specs.Prelude.{◌≡◌, ℕ, List, ◌∷◌, [], Result, Ok, Err, IsOk, IsErr, IsTrue}
+use Rattle.std.specs.Prelude.{◌≡◌, ℕ, List, ◌∷◌, [], true, false, Result, Ok, Err, IsErr, IsTrue, MatchResult}
 use Rattle.ids_live.specs.declared.refused.Refused.{Refused}
 use Rattle.ids_live.specs.declared.load.Loaded.{Loaded}
 use Rattle.ids_live.specs.Lines.{refused_line}
 use Rattle.ids_live.specs.Run.{is_among}
-use Rattle.ids_live.specs.Steps.{serial, output}
+use Rattle.ids_live.specs.Steps.{serial, meets_full, output}
 
--- Which inputs lead to which status: 0 and 1 only where they load, 2 only where one is refused; and where nothing outside failed and
--- memory wasn't wanting, they do.
+-- the inputs load, and their script is done before any call would be answered Full
+abbrev pub IsPlayable : Result Loaded Refused → Type 0
+IsPlayable loading = MatchResult loading (λ l. meets_full l ≡ false) (λ refused. ⊥)
+
+-- the inputs load, and their script comes to a call that would be answered Full
+abbrev pub IsOverfull : Result Loaded Refused → Type 0
+IsOverfull loading = MatchResult loading (λ l. meets_full l ≡ true) (λ refused. ⊥)
+
+-- Which inputs lead to which status: 0 and 1 only where they load and the script is done, 7 only where it meets Full, 2 only where an
+-- input is refused; and where nothing outside failed and memory wasn't wanting, they do.
 pub record IsComplete (loading : Result Loaded Refused) (shelf_failed sink_failed : Type 0) (status : ℕ) : Type 0 where
-  pub ran : IsTrue (is_among (0 ∷ 1 ∷ []) status) → IsOk loading
+  pub ran : IsTrue (is_among (0 ∷ 1 ∷ []) status) → IsPlayable loading
+  pub filled : status ≡ 7 → IsOverfull loading
   pub refused : status ≡ 2 → IsErr loading
-  pub runs : IsOk loading → (shelf_failed → ⊥) → (sink_failed → ⊥) → (status ≡ 5 → ⊥) → IsTrue (is_among (0 ∷ 1 ∷ []) status)
+  pub runs : IsPlayable loading → (shelf_failed → ⊥) → (sink_failed → ⊥) → (status ≡ 5 → ⊥) → IsTrue (is_among (0 ∷ 1 ∷ []) status)
+  pub fills : IsOverfull loading → (shelf_failed → ⊥) → (sink_failed → ⊥) → (status ≡ 5 → ⊥) → status ≡ 7
   pub refuses : IsErr loading → (shelf_failed → ⊥) → (sink_failed → ⊥) → (status ≡ 5 → ⊥) → status ≡ 2
 
 -- what is to be written: the text of the history, or the line of the refused input

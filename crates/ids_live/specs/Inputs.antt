@@ -5,7 +5,7 @@ use Rattle.std.specs.Str.{chars}
 use Rattle.shelf_io.specs.Pieces.{Files, file_told}
 use Rattle.ifc_base.specs.declared.value.Instance.{Instance}
 use Rattle.audit_model.specs.declared.specification.Specification.{Specification}
-use Rattle.audit_model.specs.Models.{model_of_file}
+use Rattle.audit_model.specs.declared.script.Phase.{Phase}
 use Rattle.narrow_forms.specs.Model.{model_reading}
 use Rattle.narrow_forms.specs.Script.{script_reading}
 use Rattle.narrow_forms.specs.Specifications.{specifications_reading}
@@ -58,30 +58,25 @@ abbrev pub specs_read : Option (List ℕ) → Result (List Specification) Refuse
 specs_read None = Err (TooLong input.Specs)
 specs_read (Some bytes) = refused_as InSpecs (specifications_reading (past_mark bytes))
 
--- the model of the file's instances
-abbrev pub ordered : Result (List Instance) Refused → Result (List Instance) Refused
-ordered (Ok instances) = Ok (model_of_file instances)
-ordered (Err refused) = Err refused
-
 -- the most instances of a model
 abbrev pub instance_limit : ℕ
 instance_limit = 2000000
 
 abbrev pub model_read : Option (List ℕ) → Result (List Instance) Refused
 model_read None = Err (TooLong input.Model)
-model_read (Some bytes) = ordered (refused_as InModel (model_reading instance_limit (past_mark bytes)))
+model_read (Some bytes) = refused_as InModel (model_reading instance_limit (past_mark bytes))
 
-abbrev pub script_read : Option (List ℕ) → Result (Unit {0}) Refused
+abbrev pub script_read : Option (List ℕ) → Result (List Phase) Refused
 script_read None = Err (TooLong input.Script)
 script_read (Some bytes) = refused_as InScript (script_reading (past_mark bytes))
 
 -- all four, or the first refusal in the order schema, specifications, model, script
-abbrev pub first_refusal : Result (Unit {0}) Refused → Result (List Specification) Refused → Result (List Instance) Refused → Result (Unit {0}) Refused → Result Loaded Refused
+abbrev pub first_refusal : Result (Unit {0}) Refused → Result (List Specification) Refused → Result (List Instance) Refused → Result (List Phase) Refused → Result Loaded Refused
 first_refusal (Err refused) specs model script = Err refused
 first_refusal (Ok schema) (Err refused) model script = Err refused
 first_refusal (Ok schema) (Ok specs) (Err refused) script = Err refused
 first_refusal (Ok schema) (Ok specs) (Ok model) (Err refused) = Err refused
-first_refusal (Ok schema) (Ok specs) (Ok model) (Ok script) = Ok (record { specs = specs; model = model })
+first_refusal (Ok schema) (Ok specs) (Ok model) (Ok script) = Ok (record { specs = specs; instances = model; phases = script })
 
 unfoldable pub loaded_of : Inputs → Result Loaded Refused
 loaded_of i = first_refusal (schema_read i.schema) (specs_read i.specs) (model_read i.model) (script_read i.script)

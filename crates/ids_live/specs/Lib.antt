@@ -3,7 +3,6 @@ pub mod Inputs
 pub mod Lines
 pub mod Told
 pub mod Stops
-pub mod Drain
 pub mod Steps
 pub mod Run
 pub mod Complete

@@ -1,5 +1,5 @@
 -- What a run leaves, clause by clause.
-use Rattle.std.specs.Prelude.{◌≡◌, ◌==◌, ℕ, ◌≤◌, Bool, List, [], ◌∷◌, length, Option, Result, IsOk, IfOk, MatchResult, reverse, ⊤, if◌then◌else◌}
+use Rattle.std.specs.Prelude.{◌≡◌, ◌==◌, ℕ, ◌≤◌, Bool, true, false, List, [], ◌∷◌, length, Option, Result, IsOk, IfOk, MatchResult, reverse, ⊤, if◌then◌else◌}
 use Rattle.std.specs.Bool.{OnTrue}
 use Rattle.std.specs.List.{list_any}
 use Rattle.shelf_io.specs.Causes.{Rose}
@@ -12,7 +12,10 @@ use Rattle.ids_live.specs.declared.load.Loaded.{Loaded}
 use Rattle.ids_live.specs.Words.{Command}
 use Rattle.ids_live.specs.Inputs.{Inputs, AreHeld, loaded_of}
 use Rattle.ids_live.specs.Lines.{refused_line}
-use Rattle.ids_live.specs.Steps.{ground_of, serial, output, ends_pass, IsStopped, IsFrontWritten, IsCutWritten}
+use Rattle.serial_run.specs.Growth.{returned}
+use Rattle.serial_run.specs.Phased.{ArePhases}
+use Rattle.serial_run.specs.Runs.{ends_pass, IsUnwritten, IsLeft}
+use Rattle.ids_live.specs.Steps.{ground_of, serial, meets_full, output, IsFrontWritten}
 
 -- the status is one of these
 abbrev pub is_among : List ℕ → ℕ → Bool
@@ -27,34 +30,35 @@ abbrev pub IfSteps : List StepRec → Type 0 → Type 0 → Type 0
 IfSteps [] without with_steps = without
 IfSteps (step ∷ steps) without with_steps = with_steps
 
--- the run was stopped within its steps, and not all of the output was written
-pub record IsCutShort (l : Loaded) (old new : Option (List ℕ)) (made : List StepRec) : Type 0 where
-  pub steps : IsStopped (serial l) made
-  pub written : IsCutWritten l made old new
-
 -- What stands at each status, where the inputs read as this.
 pub record IsEndOf (loading : Result Loaded Refused) (old new : Option (List ℕ)) (ended : Ended) : Type 0 where
-  -- at 0 and 1 all four inputs read
-  pub all_read : At (0 ∷ 1 ∷ []) ended.status (IsOk loading)
+  -- at 0, 1 and 7 all four inputs read
+  pub all_read : At (0 ∷ 1 ∷ 7 ∷ []) ended.status (IsOk loading)
+  -- at 0 and 1 no call would have been answered Full
+  pub room : At (0 ∷ 1 ∷ []) ended.status (MatchResult loading (λ l. meets_full l ≡ false) (λ refused. ⊥))
   -- the history is the one that the inputs make
   pub history : At (0 ∷ 1 ∷ []) ended.status (IfOk loading (λ l. ended.journal ≡ serial l))
-  -- which is legal: each reply is the one that the entries before it give
-  pub legal : At (0 ∷ 1 ∷ []) ended.status (IfOk loading (λ l. Legal (ground_of l) (reverse ended.journal)))
-  -- its text was written
-  pub text : At (0 ∷ 1 ∷ []) ended.status (IfOk loading (λ l. Appended old new (output l ended.journal)))
+  -- it falls into the phases of the script: the entries of the editor follow its lines, and then comes the drain with the report
+  pub phases : At (0 ∷ 1 ∷ []) ended.status (IfOk loading (λ l. ArePhases l.phases ended.journal))
+  -- the history is legal: each reply is the one that the entries before it give
+  pub legal : At (0 ∷ 1 ∷ 4 ∷ 5 ∷ 7 ∷ []) ended.status (IfOk loading (λ l. Legal (ground_of l) (reverse ended.journal)))
+  -- the text of all its phases was written
+  pub text : At (0 ∷ 1 ∷ 7 ∷ []) ended.status (IfOk loading (λ l. Appended old new (output l ended.journal)))
   -- the status is 0 exactly where the text ends with `end pass`, else 1
   pub verdict : At (0 ∷ 1 ∷ []) ended.status (IfOk loading (λ l. ended.status ≡ (if ends_pass (output l ended.journal) then 0 else 1)))
+  -- at 7 the history has come to a call that would be answered Full, and each claim that was out was given back
+  pub full : At (7 ∷ []) ended.status (MatchResult loading (λ l. (meets_full l ≡ true) × (reverse ended.journal ≡ returned (reverse (serial l)))) (λ refused. ⊥))
   -- at 2 an input was refused, no step was made, and the line of the refused input was written
   pub refusal : At (2 ∷ []) ended.status (MatchResult loading (λ l. ⊥) (λ refused. (ended.journal ≡ []) × Appended old new (refused_line refused)))
-  -- at 4 the sink failed in the output, or in the line of the refused input
-  pub sink : At (4 ∷ []) ended.status (MatchResult loading (λ l. IsCutShort l old new ended.journal) (λ refused. (ended.journal ≡ []) × IsFrontWritten old new (refused_line refused)))
+  -- at 4 the sink failed in the text of a phase, or in the line of the refused input
+  pub sink : At (4 ∷ []) ended.status (MatchResult loading (λ l. IsUnwritten (ground_of l) l.phases old new ended.journal) (λ refused. (ended.journal ≡ []) × IsFrontWritten old new (refused_line refused)))
   -- at 5 memory was wanting before the first step, or in the run
-  pub memory : At (5 ∷ []) ended.status (IfSteps ended.journal (new ≡ old) (MatchResult loading (λ l. IsCutShort l old new ended.journal) (λ refused. ⊥)))
+  pub memory : At (5 ∷ []) ended.status (IfSteps ended.journal (new ≡ old) (MatchResult loading (λ l. IsLeft (ground_of l) l.phases old new ended.journal) (λ refused. ⊥)))
 
 -- The run of a command over inputs.
 pub record IsRun (held : Option Files) (command : Command) (old new : Option (List ℕ)) (ended : Ended) (i : Inputs) : Type 0 where
   -- each input, up to the first that is refused, is what the shelf holds
-  pub inputs : At (0 ∷ 1 ∷ 2 ∷ 4 ∷ []) ended.status (AreHeld held command i)
+  pub inputs : At (0 ∷ 1 ∷ 2 ∷ 4 ∷ 7 ∷ []) ended.status (AreHeld held command i)
   -- at 5 too, where a step was made
   pub inputs_in_steps : At (5 ∷ []) ended.status (IfSteps ended.journal ⊤ (AreHeld held command i))
   pub ends : IsEndOf (loaded_of i) old new ended
@@ -69,10 +73,10 @@ pub record IsShelfAfter (held now : Option Files) (before faults : ℕ) (ended :
   pub same : now ≡ held
   pub later : before ≤ faults
   pub cause : At (3 ∷ []) ended.status (Rose before faults)
-  pub calm : At (0 ∷ 1 ∷ 2 ∷ 4 ∷ 5 ∷ 6 ∷ []) ended.status (faults ≡ before)
+  pub calm : At (0 ∷ 1 ∷ 2 ∷ 4 ∷ 5 ∷ 6 ∷ 7 ∷ []) ended.status (faults ≡ before)
 
 -- At 4 the sink's count of faults has risen, and else it stands still.
 pub record IsSinkAfter (before faults : ℕ) (ended : Ended) : Type 0 where
   pub later : before ≤ faults
   pub cause : At (4 ∷ []) ended.status (Rose before faults)
-  pub calm : At (0 ∷ 1 ∷ 2 ∷ 3 ∷ 5 ∷ 6 ∷ []) ended.status (faults ≡ before)
+  pub calm : At (0 ∷ 1 ∷ 2 ∷ 3 ∷ 5 ∷ 6 ∷ 7 ∷ []) ended.status (faults ≡ before)

@@ -1,7 +1,8 @@
 //! The four inputs, read whole and then as their forms.
-ghost use Rattle.std.specs.Prelude.{◌≡◌, None, ◌<◌, ◌≤◌, ◌^◌, length, IfOk, IfErr};
+ghost use Rattle.std.specs.Prelude.{◌≡◌, None, ◌<◌, ◌≤◌, length, IfOk, IfErr};
 ghost use Rattle.std.specs.Str.{chars};
-ghost use Rattle.audit_model.specs.Models.{IsModel};
+ghost use Rattle.audit_model.specs.Models.{HasDistinctIds};
+ghost use Rattle.audit_model.specs.ScriptOrder.{AreOrderly};
 ghost use Rattle.audit_model.specs.Specifications.{AreSpecifications};
 ghost use Rattle.ids_live.specs.Fitness.{IsFit};
 ghost use Rattle.ids_live.specs.Inputs.{Inputs, IsHeld, AreHeld, limit, model_limit, past_mark, schema_read, specs_read, model_read, script_read, loaded_of};
@@ -12,7 +13,7 @@ ghost use Rattle.ids_live.specs.Words.{command_shown};
 use crate::refused::{Input, Refused};
 use crate::stop::Stop;
 use crate::words::Names;
-use audit_model::{Specifications, in_order};
+use audit_model::{Phases, Specifications};
 use ifc_base::{Bytes, Instances, Refusal};
 use narrow_forms::{read_model, read_script, read_specifications};
 use shelf_io::{Shelf, read_all};
@@ -31,8 +32,10 @@ const INSTANCE_LIMIT: u32 = 2_000_000;
 #[derive(Drop)]
 pub struct Loaded {
     pub specs: Specifications,
-    /// In ascending id.
-    pub model: Instances,
+    /// In the order of the file; no two have one id.
+    pub instances: Instances,
+    /// The phases of the script, whose lines are of editor 1 and may come in their order.
+    pub phases: Phases,
 }
 
 /// Reads the inputs in their order, up to the first that is refused.
@@ -46,9 +49,13 @@ pub fn load<S: Shelf>(alloc: Global, shelf: &mut S, names: Names) -> Result<Load
 {
     load_schema(alloc, shelf, names.schema)?;
     let specs = load_specs(alloc, shelf, names.specs)?;
-    let model = load_model(alloc, shelf, names.model)?;
-    load_script(alloc, shelf, names.script)?;
-    Ok(Loaded { specs, model })
+    let instances = load_model(alloc, shelf, names.model)?;
+    let phases = load_script(alloc, shelf, names.script)?;
+    Ok(Loaded {
+        specs,
+        instances,
+        phases,
+    })
 }
 
 /// The schema, of which only the length is looked at so far.
@@ -89,35 +96,34 @@ fn load_model<S: Shelf>(alloc: Global, shelf: &mut S, name: &str) -> Result<Inst
     ensures steady { StaysSteady (S.steady shelf.old) (S.steady shelf.new) (S.faults shelf.old)
         (S.faults shelf.new) (input_told (S.held shelf.old) name.now model_limit ≡ None) result }
     ensures reads { Reads (IsHeld (S.held shelf.old) name.now model_limit) model_read result }
-    ensures ascending { IfOk result IsModel }
-    ensures few { IfOk result (λ model. length model < 2 ^ 32) }
+    ensures distinct { IfOk result HasDistinctIds }
+    ensures few { IfOk result (λ instances. length instances ≤ 2000000) }
 {
     let Some(bytes) = whole_input(alloc, shelf, name, MODEL_LIMIT)? else {
         return Err(Stop::Refused(Refused::TooLong(Input::Model)));
     };
     match read_model(alloc, past_mark(bytes.as_slice()), INSTANCE_LIMIT) {
-        Ok(instances) => match in_order(alloc, instances) {
-            Ok(model) => Ok(model),
-            Err(_) => Err(Stop::Memory),
-        },
+        Ok(instances) => Ok(instances),
         Err(Refusal::Fault(fault)) => Err(Stop::Refused(Refused::InModel(fault))),
         Err(Refusal::Memory) => Err(Stop::Memory),
     }
 }
 
-fn load_script<S: Shelf>(alloc: Global, shelf: &mut S, name: &str) -> Result<(), Stop>
+fn load_script<S: Shelf>(alloc: Global, shelf: &mut S, name: &str) -> Result<Phases, Stop>
     ensures shelf { LeavesShelf (S.held shelf.old) (S.held shelf.new) (S.faults shelf.old)
         (S.faults shelf.new) result }
     ensures steady { StaysSteady (S.steady shelf.old) (S.steady shelf.new) (S.faults shelf.old)
         (S.faults shelf.new) (input_told (S.held shelf.old) name.now limit ≡ None) result }
     ensures reads { Reads (IsHeld (S.held shelf.old) name.now limit) script_read result }
+    ensures order { IfOk result (AreOrderly 1) }
 {
     let Some(bytes) = whole_input(alloc, shelf, name, LIMIT)? else {
         return Err(Stop::Refused(Refused::TooLong(Input::Script)));
     };
-    match read_script(past_mark(bytes.as_slice())) {
-        Ok(()) => Ok(()),
-        Err(fault) => Err(Stop::Refused(Refused::InScript(fault))),
+    match read_script(alloc, past_mark(bytes.as_slice())) {
+        Ok(phases) => Ok(phases),
+        Err(Refusal::Fault(fault)) => Err(Stop::Refused(Refused::InScript(fault))),
+        Err(Refusal::Memory) => Err(Stop::Memory),
     }
 }
 

@@ -1,10 +1,9 @@
 //! A live model server for building information models. `ids_live replay SCHEMA SPECS MODEL SCRIPT`
-//! audits an IFC4 model against information delivery specifications and writes the report.
+//! runs a script on an IFC4 model, and audits its revisions against information delivery
+//! specifications.
 #![tactic(auto)]
 
-mod drain;
 mod ending;
-mod evaluate;
 mod load;
 mod play;
 mod refused;

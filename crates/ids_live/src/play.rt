@@ -1,52 +1,58 @@
 //! The run over loaded inputs, and the line of a refused one.
-ghost use Rattle.std.specs.Prelude.{◌≡◌, if◌then◌else◌, [], ◌∷◌, Ok, Err, IsTrue, length};
+ghost use Rattle.std.specs.Prelude.{◌≡◌, [], ◌∷◌, Ok, Err, IsTrue, length};
 ghost use Rattle.ids_live.specs.Fitness.{IsFit};
 ghost use Rattle.ids_live.specs.Complete.{wanted};
 ghost use Rattle.ids_live.specs.Run.{At, IsEndOf, IsSinkAfter, is_among};
+ghost use Rattle.ids_live.specs.Steps.{status_at};
 
-use crate::drain::audit;
 use crate::ending::Ended;
 use crate::load::Loaded;
 use crate::refused::{Refused, refused_line};
-use audit_model::{Journal, drain_of_file};
-use report_text::{passes, render_report};
+use audit_core::{Core, CoreJournal};
+use audit_model::Limits;
+use audit_run::PlainEvaluator;
+use serial_run::{End, run_script, script_is_phased};
 use shelf_io::{Sink, write_all};
 use std::alloc::Global;
 
-/// Audits what was loaded and writes the report.
-pub fn play<K: Sink>(alloc: Global, out: &mut K, loaded: &Loaded) -> Ended
-    requires { IsFit loaded.now }
-    ensures status { IsTrue (is_among (0 ∷ 1 ∷ 4 ∷ 5 ∷ []) result.status) }
+/// Runs the script on the model that was loaded, and writes its output.
+pub fn play<K: Sink>(alloc: Global, out: &mut K, loaded: Loaded) -> Ended
+    requires { IsFit loaded }
+    ensures status { IsTrue (is_among (0 ∷ 1 ∷ 4 ∷ 5 ∷ 7 ∷ []) result.status) }
     ensures sink { IsSinkAfter (K.faults out.old) (K.faults out.new) result }
-    ensures ends { IsEndOf (Ok loaded.now) (K.written out.old) (K.written out.new) result }
-    ensures sure { At (4 ∷ []) result.status (K.sure out.old (length (wanted (Ok loaded.now))) → ⊥) }
+    ensures ends { IsEndOf (Ok loaded) (K.written out.old) (K.written out.new) result }
+    ensures sure { At (4 ∷ []) result.status (K.sure out.old (length (wanted (Ok loaded))) → ⊥) }
     ensures lapsed { result.lapsed ≡ 0 }
 {
-    drain_of_file();
-    let Ok(audited) = audit(alloc, loaded.specs.as_slice(), loaded.model.as_slice()) else {
+    script_is_phased();
+    let Loaded {
+        specs,
+        instances,
+        phases,
+    } = loaded;
+    let evaluator = PlainEvaluator::new(specs.as_slice());
+    let Ok(core) = Core::new(alloc, specs.as_slice(), instances, Limits::STANDARD) else {
         return ended(alloc, 5);
     };
-    let Ok(text) = render_report(alloc, 0, &audited.tallies) else {
-        return ended(alloc, 5);
-    };
-    match write_all(out, text.as_slice()) {
-        Ok(()) => Ended {
-            status: status_of(passes(&audited.tallies)),
-            journal: audited.journal,
-            lapsed: 0,
-        },
-        Err(_) => Ended {
-            status: 4,
-            journal: audited.journal,
-            lapsed: 0,
-        },
+    let ran = run_script(alloc, core, &evaluator, &Limits::STANDARD, phases, out);
+    Ended {
+        status: status_of(ran.end),
+        journal: ran.journal,
+        lapsed: 0,
     }
 }
 
-fn status_of(passed: bool) -> u8
-    ensures { result ≡ (if passed then 0 else 1) }
+/// The status of a run that ended so.
+fn status_of(end: End) -> u8
+    ensures { result ≡ status_at end }
 {
-    if passed { 0 } else { 1 }
+    match end {
+        End::Passed => 0,
+        End::Failed => 1,
+        End::Unwritten => 4,
+        End::Memory => 5,
+        End::Full => 7,
+    }
 }
 
 /// Writes the line of a refused input.
@@ -74,7 +80,7 @@ pub fn ended(alloc: Global, status: u8) -> Ended
 {
     Ended {
         status,
-        journal: Journal::new(alloc),
+        journal: CoreJournal::empty(alloc),
         lapsed: 0,
     }
 }

@@ -4,7 +4,7 @@ ghost use Rattle.ids_live.specs.Lines.{input_word, cause_word, refused_line};
 
 use ifc_base::{Bytes, Memory};
 use narrow_forms::{IdsCause, IdsFault, LineFault};
-use report_text::push_decimal;
+use report_text::{push_decimal, push_text};
 use std::alloc::Global;
 
 /// One of the four inputs.
@@ -89,12 +89,4 @@ fn cause_word(cause: IdsCause) -> &'static str
         IdsCause::Json => " Json",
         IdsCause::NotBuilt => " NotBuilt",
     }
-}
-
-/// Appends the text.
-fn push_text(line: &mut Vec<u8>, text: &str) -> Result<(), Memory>
-    ensures { OnOk result (line.new.items ≡ line.old.items ++ text.now) }
-{
-    line.extend_from_slice(text.as_bytes())?;
-    Ok(())
 }

@@ -15,18 +15,19 @@ use shelf_io::{Shelf, Sink};
 use std::alloc::Global;
 
 /// Runs a command: `replay` and the names of a schema, specifications, a model and a script. The words
-/// don't hold the program's name. It reads each input whole, audits the model and writes the report,
-/// or the line of the first input that is refused. It waits for nobody and always returns.
+/// don't hold the program's name. It reads each input whole and runs the script on the model: it writes
+/// phase by phase what the editor is told and the report, or the line of the first input that is
+/// refused. It waits for nobody and always returns.
 ///
-/// Cost: `O(b + s n)` for b bytes of input, s specifications and n instances, and `O(n log n)` where
-/// the file's ids don't ascend.
+/// Cost: `O(b)` for b bytes of input, `O(n log n)` where the file's ids don't ascend, and
+/// `O(s n)` for each commit and each report, for s specifications and n instances.
 pub fn run_serial<H: Shelf, O: Sink>(
     alloc: Global,
     words: &[String],
     shelf: &mut H,
     out: &mut O,
 ) -> Ended
-    ensures status { result.status < 7 }
+    ensures status { result.status < 8 }
     ensures words { (result.status ≡ 6) ↔ (command_of (map string_bytes words.now) ≡ None) }
     ensures shelf { IsShelfAfter (H.held shelf.old) (H.held shelf.new) (H.faults shelf.old)
         (H.faults shelf.new) result }
@@ -47,7 +48,7 @@ pub fn run_serial<H: Shelf, O: Sink>(
 
 /// The run, in all but what follows from its clauses.
 fn run<H: Shelf, O: Sink>(alloc: Global, words: &[String], shelf: &mut H, out: &mut O) -> Ended
-    ensures status { result.status < 7 }
+    ensures status { result.status < 8 }
     ensures words { (result.status ≡ 6) ↔ (command_of (map string_bytes words.now) ≡ None) }
     ensures shelf { IsShelfAfter (H.held shelf.old) (H.held shelf.new) (H.faults shelf.old)
         (H.faults shelf.new) result }
@@ -65,7 +66,7 @@ fn run<H: Shelf, O: Sink>(alloc: Global, words: &[String], shelf: &mut H, out: &
         return ended(alloc, 6);
     };
     match load(alloc, shelf, names) {
-        Ok(loaded) => play(alloc, out, &loaded),
+        Ok(loaded) => play(alloc, out, loaded),
         Err(Stop::Refused(refused)) => refuse(alloc, out, refused),
         Err(Stop::Shelf) => ended(alloc, 3),
         Err(Stop::Memory) => ended(alloc, 5),

@@ -1,5 +1,5 @@
 use ifc_base::{Instance, Instances, Refusal, ValueNode};
-use narrow_forms::{LineFault, read_model, read_script};
+use narrow_forms::read_model;
 use std::alloc::Global;
 use std::process::Abort;
 use std::test::Fail;
@@ -181,20 +181,4 @@ fn ends(rt: HostRuntime) -> Result<(), Fail> {
         expect_text(&rt, rt.alloc(), text.as_str(), line)?;
     }
     Ok(())
-}
-
-#[test]
-fn scripts(rt: HostRuntime) {
-    let first = Err(LineFault { line: 1 });
-    assert_eq!(rt; read_script(b"sync"), Ok(()));
-    assert_eq!(rt; read_script(b"sync\n"), Ok(()));
-    assert_eq!(rt; read_script(b""), first);
-    assert_eq!(rt; read_script(b"\n"), first);
-    assert_eq!(rt; read_script(b"sync\nsync"), first);
-    assert_eq!(rt; read_script(b"sync\n\n"), first);
-    assert_eq!(rt; read_script(b"sync "), first);
-    assert_eq!(rt; read_script(b" sync"), first);
-    assert_eq!(rt; read_script(b"Sync"), first);
-    assert_eq!(rt; read_script(b"syn"), first);
-    assert_eq!(rt; read_script(b"sync\r\n"), first);
 }

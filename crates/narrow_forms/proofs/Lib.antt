@@ -8,3 +8,4 @@ pub mod MemberLemmas
 pub mod FormLemmas
 pub mod NamesLemmas
 pub mod ReadingLemmas
+pub mod ScriptLaws

@@ -95,8 +95,8 @@ unfoldable mutual
       else if b == 41 then Some (before, t)
       else None
 
--- the instance, where nothing stands behind it
-abbrev pub alone : Instance → Text → Option Instance
+-- what is read, where nothing stands behind it
+abbrev pub alone : {A : Type 0} → A → Text → Option A
 alone x [] = Some x
 alone x (b ∷ t) = None
 
@@ -111,3 +111,7 @@ instance_of line = do
   params ← parameters [] open'
   end ← behind 59 params.1
   alone (record { id = id.0; entity = entity.0; params = params.0 }) end
+
+-- A number, from 1 to 2,147,483,647 without a leading zero, that is all of the text.
+unfoldable pub number_of : Text → Option ℕ
+number_of t = number t >>= λ read. alone read.0 read.1

@@ -3,6 +3,7 @@ pub mod InstanceLine
 pub mod Model
 pub mod ModelFile
 pub mod Answers
+pub mod ScriptLine
 pub mod Script
 pub mod Members
 pub mod SpecificationForm

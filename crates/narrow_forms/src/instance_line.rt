@@ -193,3 +193,16 @@ pub(crate) fn read_instance(alloc: Global, line: &[u8]) -> Result<Instance, Refu
     }
     Ok(Instance { id, entity, params })
 }
+
+/// The number that is all of the text, as an id. `O(length of the text)`.
+#[tactic(auto, unfolding(crate::specs::InstanceLine::number_of))]
+pub(crate) fn read_number(text: &[u8]) -> Result<InstId, Refusal<OtherForm>>
+    ensures { Reads (λ id. id) result (spec.number_of text.now) }
+{
+    let mut bytes = LineBytes::new(text);
+    let id = number(&mut bytes)?;
+    if bytes.peek().is_some() {
+        return Err(Refusal::Fault(OtherForm));
+    }
+    Ok(id)
+}

@@ -9,6 +9,7 @@ mod lines;
 mod members;
 mod model;
 mod script;
+mod script_line;
 mod specification_form;
 mod specifications;
 

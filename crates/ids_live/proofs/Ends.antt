@@ -1,9 +1,10 @@
 -- The ends of a run.
 use Rattle.std.proofs.Common.{◌≡◌, ℕ, ◌+◌, reverse, List, [], ◌∷◌, ◌++◌, length, take, Bool, true, false, ◌&&◌, ◌||◌, ◌==◌, Option, Result, Ok, Err, refl, ap, sym, subst, ◌∙◌, arith, rules}
-use Rattle.std.specs.Prelude.{if◌then◌else◌, Some, None, IfSome, IfOk}
+use Rattle.std.specs.Prelude.{◌≤◌, if◌then◌else◌, Some, None, IfSome, IfOk}
 use Rattle.std.specs.Bool.{OnTrue}
 use Rattle.std.proofs.lemmas.Bool.{eqb-true, lt-ltb}
 use Rattle.std.proofs.lemmas.List.{append-nil, reverse-reverse}
+use Rattle.shelf_io.specs.Causes.{Rose}
 use Rattle.shelf_io.specs.Pieces.{Files, Appended}
 use Rattle.audit_model.specs.declared.specification.Specification.{Specification}
 use Rattle.audit_model.specs.declared.step.StepRec.{StepRec}
@@ -19,7 +20,7 @@ use Rattle.serial_run.specs.declared.run.End.TheVariants as ending
 use Rattle.serial_run.specs.declared.run.Ran.{Ran}
 use Rattle.serial_run.specs.Growth.{IsLater, returned}
 use Rattle.serial_run.specs.Phased.{ArePhases, ScriptIsPhased}
-use Rattle.serial_run.specs.Runs.{ends_pass, script_history, IsWhole, IsUnwritten, IsFull, IsLeft, IsEndedBy, IsRan, IsWritten}
+use Rattle.serial_run.specs.Runs.{ends_pass, script_history, IsWhole, IsUnwritten, IsFull, IsLeft, IsEndedBy, IsFinished, IsRan, IsWritten}
 use Rattle.ids_live.specs.declared.ending.Ended.{Ended}
 use Rattle.ids_live.specs.declared.refused.Refused.{Refused}
 use Rattle.ids_live.specs.declared.load.Loaded.{Loaded}
@@ -29,7 +30,7 @@ use Rattle.ids_live.specs.Steps.{ground_of, serial, meets_full, output, status_a
 use Rattle.ids_live.specs.Words.{Command}
 use Rattle.ids_live.specs.Inputs.{Inputs, loaded_of}
 use Rattle.ids_live.specs.Complete.{wanted}
-use Rattle.ids_live.specs.Run.{At, IfSteps, IsEndOf, IsRun, is_among}
+use Rattle.ids_live.specs.Run.{At, IfSteps, IsEndOf, IsRun, IsSinkAfter, is_among}
 
 -- an end without a step, where no more is said at its status than that nothing was written
 legal_none : (read : Result Loaded Refused) (journal : List StepRec) → journal ≡ [] → IfOk read (λ l. Legal (ground_of l) (reverse journal))
@@ -265,6 +266,31 @@ play_end l g old new ran e same fit law model k journal status =
     ended_by l old new e ran.end fit law (subst (λ (x : Ground). IsModel x.first) same model)
     (subst (λ (es : List StepRec). IsEndedBy (ground_of l) l.phases old new es ran.end) (sym journal) r.ended)
     (subst (λ (es : List StepRec). Legal (ground_of l) (reverse es)) (sym journal) r.legal) status
+
+-- The sink's count of faults: it stands still, or the sink failed.
+calm_sink : (before faults : ℕ) (e : Ended) → faults ≡ before → is_among (4 ∷ []) e.status ≡ false → IsSinkAfter before faults e
+calm_sink before faults e same other = record {
+  later = rw same (omega (arith));
+  cause = rw other tt;
+  calm = calm_at (is_among (0 ∷ 1 ∷ 2 ∷ 3 ∷ 5 ∷ 6 ∷ 7 ∷ []) e.status) same;
+} where
+  calm_at : {P : Type 0} (b : Bool) → P → OnTrue b P
+  calm_at true p = p
+  calm_at false p = tt
+
+failed_sink : (before faults : ℕ) (e : Ended) → Rose before faults → before ≤ faults → e.status ≡ 4 → IsSinkAfter before faults e
+failed_sink before faults e rose later status = record {
+  later = later;
+  cause = rw status rose;
+  calm = rw status tt;
+}
+
+pub sink_after : (end : End) (before faults : ℕ) (e : Ended) → IsFinished before faults end → e.status ≡ status_at end → IsSinkAfter before faults e
+sink_after ending.Passed before faults e k status = calm_sink before faults e k (rw status refl)
+sink_after ending.Failed before faults e k status = calm_sink before faults e k (rw status refl)
+sink_after ending.Unwritten before faults e k status = failed_sink before faults e k.1 k.0 status
+sink_after ending.Memory before faults e k status = calm_sink before faults e k (rw status refl)
+sink_after ending.Full before faults e k status = calm_sink before faults e k (rw status refl)
 
 -- the sink was sure, and so it didn't fail
 pub never_unwritten : (end : End) (n : ℕ) → IsWritten end → n ≡ status_at end → n ≡ 4 → ⊥

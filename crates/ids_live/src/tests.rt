@@ -109,7 +109,34 @@ const NOTHING: &str = "report 0\nspec 1 pass applicable 0 failed 0\nend pass\n";
 const FAILED: &str =
     "report 0\nspec 1 fail applicable 2 failed 2\nfail #10 1\nfail #11 1\nend fail\n";
 
-const ROWS: [Row; 12] = [
+const TWICE: &str =
+    "report 0\nspec 1 pass applicable 2 failed 0\nend pass\nreport 0\nspec 1 pass applicable 2 failed 0\nend pass\n";
+
+const CHANGED_BACK: &str =
+    "1 take 1 #10 0\n1 open 0\n1 commit 1\n1 open 1\n1 commit 2\n1 give stale inst #10 2\nreport 2\nspec 1 pass applicable 2 failed 0\nend pass\n";
+
+const UNRELATED: &str =
+    "1 take 1 #10 0\n1 open 0\n1 commit 1\n1 give used\nreport 1\nspec 1 pass applicable 1 failed 0\nend pass\n";
+
+const HELD_BACK: &str =
+    "1 pending 1 #10\nreport 0\nspec 1 pass applicable 2 failed 0\nend pass\n";
+
+const ADDED: &str =
+    "report 0\nspec 1 pass applicable 2 failed 0\nend pass\n1 open 0\n1 commit 1\nreport 1\nspec 1 pass applicable 2 failed 0\nend pass\n";
+
+const REFUSED: &str =
+    "1 open 0\n1 refused 2 taken #10\n1 open 0\n1 refused 1 missing #20\nreport 0\nspec 1 pass applicable 2 failed 0\nend pass\n";
+
+const PUBLISHED: &str =
+    "1 take 1 #10 0\n1 give used\n1 take 1 #11 0\n1 give used\n1 idle\n1 published\nreport 0\nspec 1 pass applicable 2 failed 0\nend pass\nreport 0\nspec 1 pass applicable 2 failed 0\nend pass\n";
+
+const IDLE: &str =
+    "1 take 1 #10 0\n1 give used\n1 take 1 #11 0\n1 give used\n1 idle\n1 idle\nreport 0\nspec 1 pass applicable 2 failed 0\nend pass\n";
+
+const FAILED_TWICE: &str =
+    "report 0\nspec 1 fail applicable 2 failed 2\nfail #10 1\nfail #11 1\nend fail\n1 open 0\n1 commit 1\nreport 1\nspec 1 fail applicable 1 failed 1\nfail #11 1\nend fail\n";
+
+const ROWS: [Row; 24] = [
     Row {
         name: "a mark before the model",
         specs: WALLS,
@@ -226,6 +253,126 @@ const ROWS: [Row; 12] = [
         front: "",
         lines: TWO_WALLS,
         script: "sync\nsync\n",
+        status: 0,
+        text: TWICE,
+        entries: 8,
+    },
+    Row {
+        name: "change_back_is_a_change",
+        specs: WALLS,
+        front: "",
+        lines: TWO_WALLS,
+        script: "take\nopen\nremove #10\ncommit\nopen\nadd #10=IFCWALL('a',$,'W01',$,$,$,$,$,$);\ncommit\ngive\nsync\n",
+        status: 0,
+        text: CHANGED_BACK,
+        entries: 12,
+    },
+    Row {
+        name: "unrelated_change_is_used",
+        specs: WALLS,
+        front: "",
+        lines: TWO_WALLS,
+        script: "take\nopen\nremove #11\ncommit\ngive\nsync\n",
+        status: 0,
+        text: UNRELATED,
+        entries: 6,
+    },
+    Row {
+        name: "pending",
+        specs: WALLS,
+        front: "",
+        lines: TWO_WALLS,
+        script: "publish\nsync\n",
+        status: 0,
+        text: HELD_BACK,
+        entries: 7,
+    },
+    Row {
+        name: "a phase behind another",
+        specs: WALLS,
+        front: "",
+        lines: TWO_WALLS,
+        script: "sync\nopen\nadd #20=IFCGROUP('g',$)\ncommit\nsync\n",
+        status: 0,
+        text: ADDED,
+        entries: 10,
+    },
+    Row {
+        name: "refused_commit_leaves_nothing",
+        specs: WALLS,
+        front: "",
+        lines: TWO_WALLS,
+        script: "open\nadd #20=IFCWALL('c');\nadd #10=IFCWALL('a');\ncommit\nopen\nremove #20\ncommit\nsync\n",
+        status: 0,
+        text: REFUSED,
+        entries: 10,
+    },
+    Row {
+        name: "pending_then_published",
+        specs: WALLS,
+        front: "",
+        lines: TWO_WALLS,
+        script: "work 1\r\nwork 5\n\npublish\nsync",
+        status: 0,
+        text: PUBLISHED,
+        entries: 8,
+    },
+    Row {
+        name: "an idle take gives nothing",
+        specs: WALLS,
+        front: "",
+        lines: TWO_WALLS,
+        script: "work 9\ntake\ngive\nsync\n",
+        status: 0,
+        text: IDLE,
+        entries: 8,
+    },
+    Row {
+        name: "failing elements of two revisions",
+        specs: GROUPS,
+        front: "",
+        lines: TWO_WALLS,
+        script: "sync\nopen\nremove #10\ncommit\nsync\n",
+        status: 1,
+        text: FAILED_TWICE,
+        entries: 12,
+    },
+    Row {
+        name: "a take is held at the end of a phase",
+        specs: WALLS,
+        front: "",
+        lines: TWO_WALLS,
+        script: "take\nsync\n",
+        status: 2,
+        text: "refused script line 2 NotBuilt\n",
+        entries: 0,
+    },
+    Row {
+        name: "a commit without a draft",
+        specs: WALLS,
+        front: "",
+        lines: TWO_WALLS,
+        script: "commit\nsync\n",
+        status: 2,
+        text: "refused script line 1 NotBuilt\n",
+        entries: 0,
+    },
+    Row {
+        name: "no sync",
+        specs: WALLS,
+        front: "",
+        lines: TWO_WALLS,
+        script: "open\n",
+        status: 2,
+        text: "refused script line 2 NotBuilt\n",
+        entries: 0,
+    },
+    Row {
+        name: "no line",
+        specs: WALLS,
+        front: "",
+        lines: TWO_WALLS,
+        script: "",
         status: 2,
         text: "refused script line 1 NotBuilt\n",
         entries: 0,
@@ -236,12 +383,12 @@ const ROWS: [Row; 12] = [
 fn expect_row<R: Abort>(rt: &R, alloc: Global, row: &Row) -> Result<(), Fail> {
     let model = marked_model(alloc, row.front, row.lines)?;
     let mut shelf = shelf(alloc, row.specs, model.as_str(), row.script, "", 0)?;
-    let mut sink = MemSink::new(alloc, 200, 7, Numbers::new(alloc))?;
+    let mut sink = MemSink::new(alloc, 1000, 7, Numbers::new(alloc))?;
     let words = words(alloc, "replay")?;
     let ended = run_serial(alloc, &words, &mut shelf, &mut sink);
     assert_eq!(rt; ended.status, row.status, "{}", row.name);
     assert_eq!(rt; sink.bytes(), row.text.as_bytes(), "{}", row.name);
-    assert_eq!(rt; ended.journal.as_slice().len(), row.entries, "{}", row.name);
+    assert_eq!(rt; ended.journal.steps().as_slice().len(), row.entries, "{}", row.name);
     Ok(())
 }
 
@@ -286,7 +433,7 @@ fn expect_shelf_fault<R: Abort>(
     let words = words(alloc, "replay")?;
     let ended = run_serial(alloc, &words, &mut shelf, &mut sink);
     assert_eq!(rt; ended.status, 3, "{name} {number}");
-    assert!(rt; sink.bytes().is_empty() && ended.journal.as_slice().is_empty());
+    assert!(rt; sink.bytes().is_empty() && ended.journal.steps().as_slice().is_empty());
     Ok(())
 }
 
@@ -319,7 +466,7 @@ fn expect_sink_fault<R: Abort>(
     let written = most.saturating_mul(before as usize);
     assert_eq!(rt; ended.status, 4, "{most} {before}");
     assert_eq!(rt; Some(sink.bytes()), PASS.as_bytes().get(..written));
-    assert_eq!(rt; ended.journal.as_slice().len(), 6);
+    assert_eq!(rt; ended.journal.steps().as_slice().len(), 6);
     Ok(())
 }
 

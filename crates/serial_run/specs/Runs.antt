@@ -80,7 +80,7 @@ pub record IsRan (g : Ground) (phases : List Phase) (old new : Option (List ℕ)
 
 -- The sink's count of faults has risen where it failed, and else it stands still.
 abbrev pub IsFinished : ℕ → ℕ → End → Type 0
-IsFinished before faults ending.Unwritten = Rose before faults
+IsFinished before faults ending.Unwritten = (before ≤ faults) × Rose before faults
 IsFinished before faults ending.Passed = faults ≡ before
 IsFinished before faults ending.Failed = faults ≡ before
 IsFinished before faults ending.Full = faults ≡ before

@@ -19,27 +19,27 @@ returns-in_err-specs-clause-reads g c =
     let specs = moved (g.S.Shelf.held c.load_schema.new.shelf) (g.S.Shelf.held c.args.shelf.now) (command_shown c.args.names).specs limit specs_read (Err c.in_err-specs.field-0.0) same_specs c.in_err-specs.ensures.reads in
     rw (p.1, p.2) (specs_stop (g.S.Shelf.held c.args.shelf.now) (command_shown c.args.names) c.in_err-specs.field-0.0 c.in_ok-load_schema.field-0 schema specs)
 
-pub returns-in_err-model-clause-reads : goal.returns-in_err-model-clause-reads
-returns-in_err-model-clause-reads g c =
-    let p = err_from_is_err_and c.from_residual-in_err-model.result c.from_residual-in_err-model.ensures.1 in
+pub returns-in_err-instances-clause-reads : goal.returns-in_err-instances-clause-reads
+returns-in_err-instances-clause-reads g c =
+    let p = err_from_is_err_and c.from_residual-in_err-instances.result c.from_residual-in_err-instances.ensures.1 in
     let schema = c.in_ok-load_schema.ensures.reads in
     let same_specs = c.in_ok-load_schema.ensures.shelf.same in
     let specs = moved (g.S.Shelf.held c.load_schema.new.shelf) (g.S.Shelf.held c.args.shelf.now) (command_shown c.args.names).specs limit specs_read (Ok c.in_ok-specs.specs) same_specs c.in_ok-specs.ensures.reads in
     let same_model = c.in_ok-specs.ensures.shelf.same ∙ same_specs in
-    let model = moved (g.S.Shelf.held c.load_specs.new.shelf) (g.S.Shelf.held c.args.shelf.now) (command_shown c.args.names).model model_limit model_read (Err c.in_err-model.field-0.0) same_model c.in_err-model.ensures.reads in
-    rw (p.1, p.2) (model_stop (g.S.Shelf.held c.args.shelf.now) (command_shown c.args.names) c.in_err-model.field-0.0 c.in_ok-load_schema.field-0 c.in_ok-specs.specs schema specs model)
+    let model = moved (g.S.Shelf.held c.load_specs.new.shelf) (g.S.Shelf.held c.args.shelf.now) (command_shown c.args.names).model model_limit model_read (Err c.in_err-instances.field-0.0) same_model c.in_err-instances.ensures.reads in
+    rw (p.1, p.2) (model_stop (g.S.Shelf.held c.args.shelf.now) (command_shown c.args.names) c.in_err-instances.field-0.0 c.in_ok-load_schema.field-0 c.in_ok-specs.specs schema specs model)
 
-pub returns-in_err-load_script-clause-reads : goal.returns-in_err-load_script-clause-reads
-returns-in_err-load_script-clause-reads g c =
-    let p = err_from_is_err_and c.from_residual-in_err-load_script.result c.from_residual-in_err-load_script.ensures.1 in
+pub returns-in_err-phases-clause-reads : goal.returns-in_err-phases-clause-reads
+returns-in_err-phases-clause-reads g c =
+    let p = err_from_is_err_and c.from_residual-in_err-phases.result c.from_residual-in_err-phases.ensures.1 in
     let schema = c.in_ok-load_schema.ensures.reads in
     let same_specs = c.in_ok-load_schema.ensures.shelf.same in
     let specs = moved (g.S.Shelf.held c.load_schema.new.shelf) (g.S.Shelf.held c.args.shelf.now) (command_shown c.args.names).specs limit specs_read (Ok c.in_ok-specs.specs) same_specs c.in_ok-specs.ensures.reads in
     let same_model = c.in_ok-specs.ensures.shelf.same ∙ same_specs in
-    let model = moved (g.S.Shelf.held c.load_specs.new.shelf) (g.S.Shelf.held c.args.shelf.now) (command_shown c.args.names).model model_limit model_read (Ok c.in_ok-model.model) same_model c.in_ok-model.ensures.reads in
-    let same_script = c.in_ok-model.ensures.shelf.same ∙ same_model in
-    let script = moved (g.S.Shelf.held c.load_model.new.shelf) (g.S.Shelf.held c.args.shelf.now) (command_shown c.args.names).script limit script_read (Err c.in_err-load_script.field-0.0) same_script c.in_err-load_script.ensures.reads in
-    rw (p.1, p.2) (script_stop (g.S.Shelf.held c.args.shelf.now) (command_shown c.args.names) c.in_err-load_script.field-0.0 c.in_ok-load_schema.field-0 c.in_ok-specs.specs c.in_ok-model.model schema specs model script)
+    let model = moved (g.S.Shelf.held c.load_specs.new.shelf) (g.S.Shelf.held c.args.shelf.now) (command_shown c.args.names).model model_limit model_read (Ok c.in_ok-instances.instances) same_model c.in_ok-instances.ensures.reads in
+    let same_script = c.in_ok-instances.ensures.shelf.same ∙ same_model in
+    let script = moved (g.S.Shelf.held c.load_model.new.shelf) (g.S.Shelf.held c.args.shelf.now) (command_shown c.args.names).script limit script_read (Err c.in_err-phases.field-0.0) same_script c.in_err-phases.ensures.reads in
+    rw (p.1, p.2) (script_stop (g.S.Shelf.held c.args.shelf.now) (command_shown c.args.names) c.in_err-phases.field-0.0 c.in_ok-load_schema.field-0 c.in_ok-specs.specs c.in_ok-instances.instances schema specs model script)
 
 pub returns-clause-reads : goal.returns-clause-reads
 returns-clause-reads g c =
@@ -47,7 +47,7 @@ returns-clause-reads g c =
     let same_specs = c.in_ok-load_schema.ensures.shelf.same in
     let specs = moved (g.S.Shelf.held c.load_schema.new.shelf) (g.S.Shelf.held c.args.shelf.now) (command_shown c.args.names).specs limit specs_read (Ok c.in_ok-specs.specs) same_specs c.in_ok-specs.ensures.reads in
     let same_model = c.in_ok-specs.ensures.shelf.same ∙ same_specs in
-    let model = moved (g.S.Shelf.held c.load_specs.new.shelf) (g.S.Shelf.held c.args.shelf.now) (command_shown c.args.names).model model_limit model_read (Ok c.in_ok-model.model) same_model c.in_ok-model.ensures.reads in
-    let same_script = c.in_ok-model.ensures.shelf.same ∙ same_model in
-    let script = moved (g.S.Shelf.held c.load_model.new.shelf) (g.S.Shelf.held c.args.shelf.now) (command_shown c.args.names).script limit script_read (Ok c.in_ok-load_script.field-0) same_script c.in_ok-load_script.ensures.reads in
-    all_loaded (g.S.Shelf.held c.args.shelf.now) (command_shown c.args.names) c.in_ok-load_schema.field-0 c.in_ok-specs.specs c.in_ok-model.model c.in_ok-load_script.field-0 schema specs model script
+    let model = moved (g.S.Shelf.held c.load_specs.new.shelf) (g.S.Shelf.held c.args.shelf.now) (command_shown c.args.names).model model_limit model_read (Ok c.in_ok-instances.instances) same_model c.in_ok-instances.ensures.reads in
+    let same_script = c.in_ok-instances.ensures.shelf.same ∙ same_model in
+    let script = moved (g.S.Shelf.held c.load_model.new.shelf) (g.S.Shelf.held c.args.shelf.now) (command_shown c.args.names).script limit script_read (Ok c.in_ok-phases.phases) same_script c.in_ok-phases.ensures.reads in
+    all_loaded (g.S.Shelf.held c.args.shelf.now) (command_shown c.args.names) c.in_ok-load_schema.field-0 c.in_ok-specs.specs c.in_ok-instances.instances c.in_ok-phases.phases schema specs model script

@@ -335,7 +335,7 @@ const ROWS: [Row; 24] = [
         script: "sync\nopen\nremove #10\ncommit\nsync\n",
         status: 1,
         text: FAILED_TWICE,
-        entries: 12,
+        entries: 10,
     },
     Row {
         name: "a take is held at the end of a phase",

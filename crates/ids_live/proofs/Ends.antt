@@ -201,7 +201,7 @@ unwritten_end l old new e u legal status = record {
 full_end : (l : Loaded) (old new : Option (List ℕ)) (e : Ended) → IsFull (ground_of l) l.phases old new e.journal → Legal (ground_of l) (reverse e.journal) → e.status ≡ 7 → IsEndOf (Ok l) old new e
 full_end l old new e u legal status =
     let back : reverse e.journal ≡ returned (reverse (serial l)) =
-        u.back ∙ ap (λ (h : List StepRec). returned h) (sym (ap (λ (es : List StepRec). reverse es) (serial_of l) ∙ reverse-reverse (script_history (ground_of l) l.phases))) in
+    u.back ∙ ap (λ (h : List StepRec). returned h) (sym (ap (λ (es : List StepRec). reverse es) (serial_of l) ∙ reverse-reverse (script_history (ground_of l) l.phases))) in
     let text : Appended old new (output l e.journal) = subst (λ (xs : List ℕ). Appended old new xs) (sym (output_of l e.journal)) u.text in
     record {
       all_read = rw status refl;

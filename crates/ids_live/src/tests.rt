@@ -118,8 +118,7 @@ const CHANGED_BACK: &str =
 const UNRELATED: &str =
     "1 take 1 #10 0\n1 open 0\n1 commit 1\n1 give used\nreport 1\nspec 1 pass applicable 1 failed 0\nend pass\n";
 
-const HELD_BACK: &str =
-    "1 pending 1 #10\nreport 0\nspec 1 pass applicable 2 failed 0\nend pass\n";
+const HELD_BACK: &str = "1 pending 1 #10\nreport 0\nspec 1 pass applicable 2 failed 0\nend pass\n";
 
 const ADDED: &str =
     "report 0\nspec 1 pass applicable 2 failed 0\nend pass\n1 open 0\n1 commit 1\nreport 1\nspec 1 pass applicable 2 failed 0\nend pass\n";
@@ -388,7 +387,12 @@ fn expect_row<R: Abort>(rt: &R, alloc: Global, row: &Row) -> Result<(), Fail> {
     let ended = run_serial(alloc, &words, &mut shelf, &mut sink);
     assert_eq!(rt; ended.status, row.status, "{}", row.name);
     assert_eq!(rt; sink.bytes(), row.text.as_bytes(), "{}", row.name);
-    assert_eq!(rt; ended.journal.steps().as_slice().len(), row.entries, "{}", row.name);
+    assert_eq!(rt;
+        ended.journal.steps().as_slice().len(),
+        row.entries,
+        "{}",
+        row.name
+    );
     Ok(())
 }
 

@@ -1,5 +1,5 @@
 -- The ends of a run.
-use Rattle.std.proofs.Common.{◌≡◌, ℕ, ◌+◌, reverse, List, [], ◌∷◌, ◌++◌, length, take, Bool, true, false, ◌&&◌, ◌||◌, ◌==◌, Option, Result, Ok, Err, refl, ap, sym, subst, ◌∙◌, arith, rules}
+use Rattle.std.proofs.Common.{◌≡◌, ℕ, ◌+◌, reverse, List, [], ◌∷◌, ◌++◌, length, take, Bool, true, false, ◌&&◌, ◌||◌, ◌==◌, Option, Result, Ok, Err, ◌⊎◌, inl, inr, refl, ap, sym, subst, ◌∙◌, arith, rules}
 use Rattle.std.specs.Prelude.{◌≤◌, if◌then◌else◌, Some, None, IfSome, IfOk}
 use Rattle.std.specs.Bool.{OnTrue}
 use Rattle.std.proofs.lemmas.Bool.{eqb-true, lt-ltb}
@@ -8,18 +8,23 @@ use Rattle.shelf_io.specs.Causes.{Rose}
 use Rattle.shelf_io.specs.Pieces.{Files, Appended}
 use Rattle.audit_model.specs.declared.specification.Specification.{Specification}
 use Rattle.audit_model.specs.declared.step.StepRec.{StepRec}
-use Rattle.audit_model.specs.History.{Ground}
+use Rattle.audit_model.specs.declared.step.Given.{Given}
+use Rattle.audit_model.specs.declared.script.Act.{Act}
+use Rattle.audit_model.specs.declared.script.Phase.{Phase}
+use Rattle.audit_model.specs.History.{Ground, out}
 use Rattle.audit_model.specs.Machine.{Legal}
 use Rattle.audit_model.specs.Models.{IsModel}
 use Rattle.audit_model.specs.Output.{output as text_of}
+use Rattle.audit_model.specs.ScriptLines.{free, own}
 use Rattle.audit_model.specs.Serial.{serial as history_of, meets_full as is_filled}
 use Rattle.audit_model.specs.Specifications.{HaveFewFacets}
 use Rattle.audit_run.specs.Holding.{HaveFewRequirements}
 use Rattle.serial_run.specs.declared.run.End.{End}
 use Rattle.serial_run.specs.declared.run.End.TheVariants as ending
 use Rattle.serial_run.specs.declared.run.Ran.{Ran}
-use Rattle.serial_run.specs.Growth.{IsLater, returned}
+use Rattle.serial_run.specs.Growth.{IsLater, returns, returned}
 use Rattle.serial_run.specs.Phased.{ArePhases, ScriptIsPhased}
+use Rattle.serial_run.specs.Stopped.{StopsFrom, AreStopped, StopIsPhased}
 use Rattle.serial_run.specs.Runs.{ends_pass, script_history, IsWhole, IsUnwritten, IsFull, IsLeft, IsEndedBy, IsFinished, IsRan, IsWritten}
 use Rattle.ids_live.specs.declared.ending.Ended.{Ended}
 use Rattle.ids_live.specs.declared.refused.Refused.{Refused}
@@ -37,12 +42,26 @@ legal_none : (read : Result Loaded Refused) (journal : List StepRec) → journal
 legal_none (Err refused) journal none = tt
 legal_none (Ok l) journal none = rw none tt
 
+-- a front of no phase is one of any script
+stopped_none : (read : Result Loaded Refused) (journal : List StepRec) → journal ≡ [] → IfOk read (λ l. AreStopped l.phases journal)
+stopped_none (Err refused) journal none = tt
+stopped_none (Ok l) journal none = rw none (none_begun l.phases) where
+  none_done : (acts : List Act) → StopsFrom 1 free acts [] None
+  none_done [] = (refl, refl)
+  none_done (a ∷ acts) = inl (refl, refl)
+
+  none_begun : (ps : List Phase) → AreStopped ps []
+  none_begun [] = refl
+  none_begun (p ∷ ps) = inl (record { own_entries = []; held = None; split = refl; stops = none_done (own 1 p.lines) })
+
 pub early_end : (read : Result Loaded Refused) (old new : Option (List ℕ)) (e : Ended) → e.journal ≡ [] → e.status ≡ 5 → new ≡ old → IsEndOf read old new e
 early_end read old new e none status same = record {
   all_read = rw status tt;
   room = rw status tt;
   history = rw status tt;
   phases = rw status tt;
+  stopped = rw status (stopped_none read e.journal none);
+  none_out = rw (status, none) refl;
   legal = rw status (legal_none read e.journal none);
   text = rw status tt;
   verdict = rw status tt;
@@ -58,6 +77,8 @@ shelf_end read old new e status = record {
   room = rw status tt;
   history = rw status tt;
   phases = rw status tt;
+  stopped = rw status tt;
+  none_out = rw status tt;
   legal = rw status tt;
   text = rw status tt;
   verdict = rw status tt;
@@ -74,6 +95,8 @@ refused_end refused old new e none written status = record {
   room = rw status tt;
   history = rw status tt;
   phases = rw status tt;
+  stopped = rw status tt;
+  none_out = rw status tt;
   legal = rw status tt;
   text = rw status tt;
   verdict = rw status tt;
@@ -90,6 +113,8 @@ refused_cut refused old new e n none written status = record {
   room = rw status tt;
   history = rw status tt;
   phases = rw status tt;
+  stopped = rw status tt;
+  none_out = rw (status, none) refl;
   legal = rw status tt;
   text = rw status tt;
   verdict = rw status tt;
@@ -147,6 +172,8 @@ played_0 l old new e k status = record {
   room = rw status k.room;
   history = rw status k.history;
   phases = rw status k.phases;
+  stopped = rw status tt;
+  none_out = rw status tt;
   legal = rw status k.legal;
   text = rw status k.text;
   verdict = rw status (sym status ∙ k.verdict);
@@ -162,6 +189,8 @@ played_1 l old new e k status = record {
   room = rw status k.room;
   history = rw status k.history;
   phases = rw status k.phases;
+  stopped = rw status tt;
+  none_out = rw status tt;
   legal = rw status k.legal;
   text = rw status k.text;
   verdict = rw status (sym status ∙ k.verdict);
@@ -181,13 +210,19 @@ is_played l old new e b fit law model w legal passes status = record {
   verdict = status ∙ ap (λ (x : Bool). if x then 0 else 1) (sym passes ∙ sym (ap (λ (xs : List ℕ). ends_pass xs) (output_of l e.journal)));
 }
 
+-- what stands of a journal that is no whole history
+abbrev IsStop : Loaded → List StepRec → Type 0
+IsStop l journal = AreStopped l.phases journal × (out (reverse journal) ≡ [])
+
 -- The sink failed in the text of a phase.
-unwritten_end : (l : Loaded) (old new : Option (List ℕ)) (e : Ended) → IsUnwritten (ground_of l) l.phases old new e.journal → Legal (ground_of l) (reverse e.journal) → e.status ≡ 4 → IsEndOf (Ok l) old new e
-unwritten_end l old new e u legal status = record {
+unwritten_end : (l : Loaded) (old new : Option (List ℕ)) (e : Ended) → IsUnwritten (ground_of l) l.phases old new e.journal → Legal (ground_of l) (reverse e.journal) → IsStop l e.journal → e.status ≡ 4 → IsEndOf (Ok l) old new e
+unwritten_end l old new e u legal stop status = record {
   all_read = rw status tt;
   room = rw status tt;
   history = rw status tt;
   phases = rw status tt;
+  stopped = rw status stop.0;
+  none_out = rw status stop.1;
   legal = rw status legal;
   text = rw status tt;
   verdict = rw status tt;
@@ -198,8 +233,8 @@ unwritten_end l old new e u legal status = record {
 }
 
 -- A call would have been answered Full.
-full_end : (l : Loaded) (old new : Option (List ℕ)) (e : Ended) → IsFull (ground_of l) l.phases old new e.journal → Legal (ground_of l) (reverse e.journal) → e.status ≡ 7 → IsEndOf (Ok l) old new e
-full_end l old new e u legal status =
+full_end : (l : Loaded) (old new : Option (List ℕ)) (e : Ended) → IsFull (ground_of l) l.phases old new e.journal → Legal (ground_of l) (reverse e.journal) → IsStop l e.journal → e.status ≡ 7 → IsEndOf (Ok l) old new e
+full_end l old new e u legal stop status =
     let back : reverse e.journal ≡ returned (reverse (serial l)) =
     u.back ∙ ap (λ (h : List StepRec). returned h) (sym (ap (λ (es : List StepRec). reverse es) (serial_of l) ∙ reverse-reverse (script_history (ground_of l) l.phases))) in
     let text : Appended old new (output l e.journal) = subst (λ (xs : List ℕ). Appended old new xs) (sym (output_of l e.journal)) u.text in
@@ -208,6 +243,8 @@ full_end l old new e u legal status =
       room = rw status tt;
       history = rw status tt;
       phases = rw status tt;
+      stopped = rw status stop.0;
+      none_out = rw status stop.1;
       legal = rw status legal;
       text = rw status text;
       verdict = rw status tt;
@@ -237,12 +274,14 @@ left_steps l old new [] u =
     appended_nothing old new (subst (λ (h : List StepRec). Appended old new (text_of (ground_of l) (reverse h))) none u.written)
 left_steps l old new (e ∷ es) u = u
 
-left_end : (l : Loaded) (old new : Option (List ℕ)) (e : Ended) → IsLeft (ground_of l) l.phases old new e.journal → Legal (ground_of l) (reverse e.journal) → e.status ≡ 5 → IsEndOf (Ok l) old new e
-left_end l old new e u legal status = record {
+left_end : (l : Loaded) (old new : Option (List ℕ)) (e : Ended) → IsLeft (ground_of l) l.phases old new e.journal → Legal (ground_of l) (reverse e.journal) → IsStop l e.journal → e.status ≡ 5 → IsEndOf (Ok l) old new e
+left_end l old new e u legal stop status = record {
   all_read = rw status tt;
   room = rw status tt;
   history = rw status tt;
   phases = rw status tt;
+  stopped = rw status stop.0;
+  none_out = rw status stop.1;
   legal = rw status legal;
   text = rw status tt;
   verdict = rw status tt;
@@ -253,17 +292,20 @@ left_end l old new e u legal status = record {
 }
 
 -- All ends of a run.
-ended_by : (l : Loaded) (old new : Option (List ℕ)) (e : Ended) (end : End) → IsFit l → ScriptIsPhased → IsModel (ground_of l).first → IsEndedBy (ground_of l) l.phases old new e.journal end → Legal (ground_of l) (reverse e.journal) → e.status ≡ status_at end → IsEndOf (Ok l) old new e
-ended_by l old new e ending.Passed fit law model k legal status = played_0 l old new e (is_played l old new e true fit law model k.0 legal k.1 status) status
-ended_by l old new e ending.Failed fit law model k legal status = played_1 l old new e (is_played l old new e false fit law model k.0 legal k.1 status) status
-ended_by l old new e ending.Unwritten fit law model k legal status = unwritten_end l old new e k legal status
-ended_by l old new e ending.Memory fit law model k legal status = left_end l old new e k legal status
-ended_by l old new e ending.Full fit law model k legal status = full_end l old new e k legal status
+ended_by : (l : Loaded) (old new : Option (List ℕ)) (e : Ended) (end : End) → IsFit l → ScriptIsPhased → StopIsPhased → IsModel (ground_of l).first → IsEndedBy (ground_of l) l.phases old new e.journal end → Legal (ground_of l) (reverse e.journal) → e.status ≡ status_at end → IsEndOf (Ok l) old new e
+ended_by l old new e ending.Passed fit law stops model k legal status = played_0 l old new e (is_played l old new e true fit law model k.0 legal k.1 status) status
+ended_by l old new e ending.Failed fit law stops model k legal status = played_1 l old new e (is_played l old new e false fit law model k.0 legal k.1 status) status
+ended_by l old new e ending.Unwritten fit law stops model k legal status =
+    let alone : returned (reverse e.journal) ≡ reverse e.journal = ap (λ (cs : List Given). returns cs ++ reverse e.journal) k.none_out in
+    unwritten_end l old new e k legal (stops (ground_of l) l.phases e.journal fit.specs.numbered model fit.order (record { front = reverse e.journal; within = k.within; back = sym alone })) status
+ended_by l old new e ending.Memory fit law stops model k legal status = left_end l old new e k legal (stops (ground_of l) l.phases e.journal fit.specs.numbered model fit.order k.cut) status
+ended_by l old new e ending.Full fit law stops model k legal status =
+    full_end l old new e k legal (stops (ground_of l) l.phases e.journal fit.specs.numbered model fit.order (record { front = script_history (ground_of l) l.phases; within = ([], refl); back = k.back })) status
 
-pub play_end : (l : Loaded) (g : Ground) (old new : Option (List ℕ)) (ran : Ran) (e : Ended) → g ≡ ground_of l → IsFit l → ScriptIsPhased → IsModel g.first → IsRan g l.phases old new ran → e.journal ≡ ran.journal → e.status ≡ status_at ran.end → IsEndOf (Ok l) old new e
-play_end l g old new ran e same fit law model k journal status =
+pub play_end : (l : Loaded) (g : Ground) (old new : Option (List ℕ)) (ran : Ran) (e : Ended) → g ≡ ground_of l → IsFit l → ScriptIsPhased → StopIsPhased → IsModel g.first → IsRan g l.phases old new ran → e.journal ≡ ran.journal → e.status ≡ status_at ran.end → IsEndOf (Ok l) old new e
+play_end l g old new ran e same fit law stops model k journal status =
     let r : IsRan (ground_of l) l.phases old new ran = subst (λ (x : Ground). IsRan x l.phases old new ran) same k in
-    ended_by l old new e ran.end fit law (subst (λ (x : Ground). IsModel x.first) same model)
+    ended_by l old new e ran.end fit law stops (subst (λ (x : Ground). IsModel x.first) same model)
     (subst (λ (es : List StepRec). IsEndedBy (ground_of l) l.phases old new es ran.end) (sym journal) r.ended)
     (subst (λ (es : List StepRec). Legal (ground_of l) (reverse es)) (sym journal) r.legal) status
 

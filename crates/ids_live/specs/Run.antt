@@ -4,6 +4,7 @@ use Rattle.std.specs.Bool.{OnTrue}
 use Rattle.std.specs.List.{list_any}
 use Rattle.shelf_io.specs.Causes.{Rose}
 use Rattle.shelf_io.specs.Pieces.{Files, Appended}
+use Rattle.audit_model.specs.History.{out}
 use Rattle.audit_model.specs.Machine.{Legal}
 use Rattle.audit_model.specs.declared.step.StepRec.{StepRec}
 use Rattle.ids_live.specs.declared.ending.Ended.{Ended}
@@ -15,6 +16,7 @@ use Rattle.ids_live.specs.Lines.{refused_line}
 use Rattle.serial_run.specs.Growth.{returned}
 use Rattle.serial_run.specs.Phased.{ArePhases}
 use Rattle.serial_run.specs.Runs.{ends_pass, IsUnwritten, IsLeft}
+use Rattle.serial_run.specs.Stopped.{AreStopped}
 use Rattle.ids_live.specs.Steps.{ground_of, serial, meets_full, output, IsFrontWritten}
 
 -- the status is one of these
@@ -40,6 +42,10 @@ pub record IsEndOf (loading : Result Loaded Refused) (old new : Option (List ℕ
   pub history : At (0 ∷ 1 ∷ []) ended.status (IfOk loading (λ l. ended.journal ≡ serial l))
   -- it falls into the phases of the script: the entries of the editor follow its lines, and then comes the drain with the report
   pub phases : At (0 ∷ 1 ∷ []) ended.status (IfOk loading (λ l. ArePhases l.phases ended.journal))
+  -- at 4, 5 and 7 some phases are whole, and of the next a front was done, behind which the claim that was held was given back
+  pub stopped : At (4 ∷ 5 ∷ 7 ∷ []) ended.status (IfOk loading (λ l. AreStopped l.phases ended.journal))
+  -- and no claim is out
+  pub none_out : At (4 ∷ 5 ∷ 7 ∷ []) ended.status (out (reverse ended.journal) ≡ [])
   -- the history is legal: each reply is the one that the entries before it give
   pub legal : At (0 ∷ 1 ∷ 4 ∷ 5 ∷ 7 ∷ []) ended.status (IfOk loading (λ l. Legal (ground_of l) (reverse ended.journal)))
   -- the text of all its phases was written

@@ -146,7 +146,7 @@ pub none_left : {X : Type 0} (xs : List X) (n : ℕ) → length xs ≡ n → (0 
 none_left [] n e f = refl
 none_left (x ∷ xs) n e f = absurd (true≢false (sym (f (omega (arith, e)))))
 
-phases_full : (g : Ground) (ps : List Phase) (s : Run) → s.full ≡ true → phases_run g ps s ≡ s
+pub phases_full : (g : Ground) (ps : List Phase) (s : Run) → s.full ≡ true → phases_run g ps s ≡ s
 phases_full g [] s e = refl
 phases_full g (p ∷ ps) s e =
     let lines : lines_run g p.lines s ≡ s = lines_full g p.lines s e in
@@ -283,6 +283,7 @@ run_unwritten {g = g} {all = all} {core = core} {old = old} {now = now} new writ
         early = core.history;
         later = rw turned since;
         ended = rw turned d.ended;
+        none_out = rw turned d.reached.free.none_out;
         few = rw turned a.few;
         last = text;
         split = output_of g new.history ran.journal law journal legal (a.alone k.alone) ∙ grown ∙ ap (λ (xs : List ℕ). xs ++ text) (sym early);

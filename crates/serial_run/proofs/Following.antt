@@ -31,10 +31,10 @@ use Rattle.serial_run.proofs.Phasing.{lines_full}
 
 -- Entries in the order of the journal, and histories.
 
-turned : (e : StepRec) (es h : List StepRec) → reverse (e ∷ es) ++ h ≡ reverse es ++ (e ∷ h)
+pub turned : (e : StepRec) (es h : List StepRec) → reverse (e ∷ es) ++ h ≡ reverse es ++ (e ∷ h)
 turned e es h = ap (λ (xs : List StepRec). xs ++ h) (reverse-append (e ∷ []) es) ∙ append_assoc (reverse es) (e ∷ []) h
 
-turned_both : (es fs h : List StepRec) → reverse (es ++ fs) ++ h ≡ reverse fs ++ (reverse es ++ h)
+pub turned_both : (es fs h : List StepRec) → reverse (es ++ fs) ++ h ≡ reverse fs ++ (reverse es ++ h)
 turned_both es fs h = ap (λ (xs : List StepRec). xs ++ h) (reverse-append es fs) ∙ append_assoc (reverse fs) (reverse es) h
 
 by_both : (who : ℕ) (es fs : List StepRec) → AllBy who es → AllBy who fs → AllBy who (es ++ fs)
@@ -45,13 +45,13 @@ legal_older : (g : Ground) (xs h : List StepRec) → Legal g (xs ++ h) → Legal
 legal_older g [] h l = l
 legal_older g (x ∷ xs) h l = legal_older g xs h l.1
 
-legal_before : (g : Ground) (h k : List StepRec) → IsLater h k → Legal g k → Legal g h
+pub legal_before : (g : Ground) (h k : List StepRec) → IsLater h k → Legal g k → Legal g h
 legal_before g h k later l = legal_older g later.0 h (subst (λ (xs : List StepRec). Legal g xs) later.1 l)
 
 -- Claims that are out.
 
 -- No claim is out but the one that the actor holds.
-abbrev HeldIn : ℕ → List Given → Option (Option ℕ) → Type 0
+abbrev pub HeldIn : ℕ → List Given → Option (Option ℕ) → Type 0
 HeldIn who cs None = cs ≡ []
 HeldIn who cs (Some None) = cs ≡ []
 HeldIn who cs (Some (Some n)) = (c : Given) × (cs ≡ c ∷ []) × (c.number ≡ n) × (c.actor ≡ who)
@@ -68,7 +68,7 @@ claim_held who Back cs e = e
 claim_held who (Pending p) cs e = e
 claim_held who (Report r) cs e = e
 
-none_held : (who : ℕ) (cs : List Given) (o : Option (Option ℕ)) → is_some o ≡ false → HeldIn who cs o → cs ≡ []
+pub none_held : (who : ℕ) (cs : List Given) (o : Option (Option ℕ)) → is_some o ≡ false → HeldIn who cs o → cs ≡ []
 none_held who cs None e k = k
 none_held who cs (Some x) e k = absurd (cc)
 
@@ -78,31 +78,31 @@ found_alone n c e = ap (λ (b : Bool). cond b (Some c) None) (eq-eqb c.number n 
 given_to_self : (who : ℕ) (c : Given) → c.actor ≡ who → given_to who (Some c) ≡ Some c
 given_to_self who c e = ap (λ (b : Bool). cond b (Some c) None) (eq-eqb c.actor who e)
 
-abbrev deliver_entry : Ground → ℕ → ℕ → List StepRec → Given → StepRec
+abbrev pub deliver_entry : Ground → ℕ → ℕ → List StepRec → Given → StepRec
 deliver_entry g who n h c = entry who (calls.Deliver n) (deliver_reply g h c)
 
 -- the claim that is held is found
-delivery_is : (g : Ground) (who n : ℕ) (h : List StepRec) (c : Given) → out h ≡ c ∷ [] → c.number ≡ n → c.actor ≡ who → after_delivery g who n h ≡ deliver_entry g who n h c ∷ h
+pub delivery_is : (g : Ground) (who n : ℕ) (h : List StepRec) (c : Given) → out h ≡ c ∷ [] → c.number ≡ n → c.actor ≡ who → after_delivery g who n h ≡ deliver_entry g who n h c ∷ h
 delivery_is g who n h c o number actor =
     ap (λ (cs : List Given). with_delivery g who n (given_to who (claim_numbered n cs)) h) o
     ∙ ap (λ (x : Option Given). with_delivery g who n (given_to who x) h) (found_alone n c number)
     ∙ ap (λ (x : Option Given). with_delivery g who n x h) (given_to_self who c actor)
 
 -- and none is out behind its delivery
-none_left : (n : ℕ) (cs : List Given) (c : Given) → cs ≡ c ∷ [] → c.number ≡ n → without_claim n cs ≡ []
+pub none_left : (n : ℕ) (cs : List Given) (c : Given) → cs ≡ c ∷ [] → c.number ≡ n → without_claim n cs ≡ []
 none_left n cs c o e =
     ap (λ (xs : List Given). without_claim n xs) o ∙ ap (λ (b : Bool). cond (not b) (c ∷ []) []) (eq-eqb c.number n e)
 
 -- Rounds.
 
-turns_first : (who n number : ℕ) (pair : Pair) (at : ℕ) (reply : Reply) (es : List StepRec) → Turns who n es → Turns who (suc n) (entry who calls.Claim (Claimed number pair at) ∷ entry who (calls.Deliver number) reply ∷ es)
+pub turns_first : (who n number : ℕ) (pair : Pair) (at : ℕ) (reply : Reply) (es : List StepRec) → Turns who n es → Turns who (suc n) (entry who calls.Claim (Claimed number pair at) ∷ entry who (calls.Deliver number) reply ∷ es)
 turns_first who zero number pair at reply es t =
     ([], number, pair, at, reply, refl, ap (λ (xs : List StepRec). entry who calls.Claim (Claimed number pair at) ∷ entry who (calls.Deliver number) reply ∷ xs) t)
 turns_first who (suc n) number pair at reply es t =
     let both : List StepRec → List StepRec = λ xs. entry who calls.Claim (Claimed number pair at) ∷ entry who (calls.Deliver number) reply ∷ xs in
     (both t.0, t.1, t.2, t.3, t.4, turns_first who n number pair at reply t.0 t.5, ap both t.6)
 
-rounds_first : (who n number : ℕ) (pair : Pair) (at : ℕ) (reply : Reply) (es : List StepRec) → Rounds who n es → Rounds who (suc n) (entry who calls.Claim (Claimed number pair at) ∷ entry who (calls.Deliver number) reply ∷ es)
+pub rounds_first : (who n number : ℕ) (pair : Pair) (at : ℕ) (reply : Reply) (es : List StepRec) → Rounds who n es → Rounds who (suc n) (entry who calls.Claim (Claimed number pair at) ∷ entry who (calls.Deliver number) reply ∷ es)
 rounds_first who n number pair at reply es (inl t) = inl (turns_first who n number pair at reply es t)
 rounds_first who n number pair at reply es (inr k) =
     let both : List StepRec → List StepRec = λ xs. entry who calls.Claim (Claimed number pair at) ∷ entry who (calls.Deliver number) reply ∷ xs in
@@ -118,7 +118,7 @@ record IsWorked (who n : ℕ) (p : Place) (h : List StepRec) (d : Done) : Type 0
   pub none_out : out d.history ≡ []
   pub place : d.place ≡ p
 
-abbrev IfGoing : (Done → Type 0) → Done → Type 0
+abbrev pub IfGoing : (Done → Type 0) → Done → Type 0
 IfGoing F d = d.full ≡ false → F d
 
 roomy : (F : Done → Type 0) (g : Ground) (n : ℕ) (h : List StepRec) (p : Place) (d : Done) → IfGoing F d → IfGoing F (with_room g n h p d)
@@ -164,7 +164,7 @@ rounds_on g who (suc n) p h none =
 -- Lines.
 
 -- The line was done after h.
-record Goes (who : ℕ) (a : Act) (p : Place) (h : List StepRec) (d : Done) : Type 0 where
+pub record Goes (who : ℕ) (a : Act) (p : Place) (h : List StepRec) (d : Done) : Type 0 where
   pub entries : List StepRec
   pub history : d.history ≡ reverse entries ++ h
   pub does : Does who a p entries d.place
@@ -207,11 +207,11 @@ give_goes g who (Some (Some n)) p h e k =
       held = ap (λ (x : List StepRec). out x) is ∙ none_left n (out h) k.0 k.1 k.2;
     }
 
-not_true : (b : Bool) → not b ≡ true → b ≡ false
+pub not_true : (b : Bool) → not b ≡ true → b ≡ false
 not_true true e = absurd (cc)
 not_true false e = refl
 
-none_yet : (who : ℕ) (h : List StepRec) (p : Place) → not (is_some p.held) ≡ true → HeldIn who (out h) p.held → out h ≡ []
+pub none_yet : (who : ℕ) (h : List StepRec) (p : Place) → not (is_some p.held) ≡ true → HeldIn who (out h) p.held → out h ≡ []
 none_yet who h p may k = none_held who (out h) p.held (not_true (is_some p.held) may) k
 
 held_none : (who : ℕ) (cs : List Given) (o : Option (Option ℕ)) → is_some o ≡ false → cs ≡ [] → HeldIn who cs o
@@ -228,7 +228,7 @@ worked_goes who n p h d none w =
       held = subst (λ (q : Place). HeldIn who (out d.history) q.held) (sym w.place) (held_none who (out d.history) p.held none w.none_out);
     }
 
-act_goes : (g : Ground) (who : ℕ) (a : Act) (p : Place) (h : List StepRec) → may_come (is_some p.draft) (is_some p.held) a ≡ true → HeldIn who (out h) p.held → IfGoing (Goes who a p h) (act_done g who a p h)
+pub act_goes : (g : Ground) (who : ℕ) (a : Act) (p : Place) (h : List StepRec) → may_come (is_some p.draft) (is_some p.held) a ≡ true → HeldIn who (out h) p.held → IfGoing (Goes who a p h) (act_done g who a p h)
 act_goes g who Begin p h may k =
     roomy (Goes who Begin p h) g 1 h p (done (entry who calls.Begin (Began (revision h)) ∷ h) (place (Some (revision h, [])) p.held))
     (λ going. record { entries = entry who calls.Begin (Began (revision h)) ∷ []; history = refl; does = (revision h, refl, refl); by = (refl, tt); held = k })
@@ -251,10 +251,10 @@ drafted_some : (e : Edit) (o : Option (ℕ × List Edit)) → is_some (drafted e
 drafted_some e None = refl
 drafted_some e (Some d) = refl
 
-abbrev drafts : Place → Bool
+abbrev pub drafts : Place → Bool
 drafts p = is_some p.draft
 
-abbrev holds : Place → Bool
+abbrev pub holds : Place → Bool
 holds p = is_some p.held
 
 does_drafts : (who : ℕ) (a : Act) (p q : Place) (es : List StepRec) → Does who a p es q → drafts q ≡ drafts_after (drafts p) a
@@ -285,7 +285,7 @@ lines_going : (g : Ground) (ls : List ScriptLine) (s : Run) → (lines_run g ls 
 lines_going g ls s e = going_before s.full (λ b. (lines_run g ls s).full) (λ t. ap (λ (u : Run). u.full) (lines_full g ls s t) ∙ t) e
 
 -- the run u was led by these lines of editor 1, who was at the place p, from the history h
-record AreFollowed (p : Place) (ls : List ScriptLine) (h : List StepRec) (u : Run) : Type 0 where
+pub record AreFollowed (p : Place) (ls : List ScriptLine) (h : List StepRec) (u : Run) : Type 0 where
   pub entries : List StepRec
   pub history : u.history ≡ reverse entries ++ h
   pub last : Place
@@ -300,13 +300,13 @@ resting p a b = (λ i. place (none p.draft a i) (none p.held b i)) where
   none None e = refl
   none (Some x) e = absurd (cc)
 
-own_first : (l : ScriptLine) (ls : List ScriptLine) → l.editor ≡ 1 → own 1 (l ∷ ls) ≡ l.act ∷ own 1 ls
+pub own_first : (l : ScriptLine) (ls : List ScriptLine) → l.editor ≡ 1 → own 1 (l ∷ ls) ≡ l.act ∷ own 1 ls
 own_first l ls e = ap (λ (b : Bool). cond b (l.act ∷ own 1 ls) (own 1 ls)) (eq-eqb l.editor 1 e)
 
-line_is : (g : Ground) (l : ScriptLine) (s : Run) → s.full ≡ false → l.editor ≡ 1 → line_run g l s ≡ moved 1 s (act_done g 1 l.act (s.places 1) s.history)
+pub line_is : (g : Ground) (l : ScriptLine) (s : Run) → s.full ≡ false → l.editor ≡ 1 → line_run g l s ≡ moved 1 s (act_done g 1 l.act (s.places 1) s.history)
 line_is g l s going one = λ i. cond (going i) s (moved (one i) s (act_done g (one i) l.act (s.places (one i)) s.history))
 
-order_on : (a : Act) (p q : Place) (es : List StepRec) (ls : List ScriptLine) → Does 1 a p es q → IsOrderly 1 (drafts_after (drafts p) a) (holds_after (holds p) a) ls → IsOrderly 1 (drafts q) (holds q) ls
+pub order_on : (a : Act) (p q : Place) (es : List StepRec) (ls : List ScriptLine) → Does 1 a p es q → IsOrderly 1 (drafts_after (drafts p) a) (holds_after (holds p) a) ls → IsOrderly 1 (drafts q) (holds q) ls
 order_on a p q es ls k o =
     subst (λ (b : Bool). IsOrderly 1 b (holds q) ls) (sym (does_drafts 1 a p q es k)) (subst (λ (b : Bool). IsOrderly 1 (drafts_after (drafts p) a) b ls) (sym (does_holds 1 a p q es k)) o)
 
@@ -321,7 +321,7 @@ first_line p l ls h d u one k f = record {
   at_rest = f.at_rest;
 }
 
-lines_follow : (g : Ground) (ls : List ScriptLine) (s : Run) → HeldIn 1 (out s.history) (s.places 1).held → IsOrderly 1 (drafts (s.places 1)) (holds (s.places 1)) ls → (lines_run g ls s).full ≡ false → AreFollowed (s.places 1) ls s.history (lines_run g ls s)
+pub lines_follow : (g : Ground) (ls : List ScriptLine) (s : Run) → HeldIn 1 (out s.history) (s.places 1).held → IsOrderly 1 (drafts (s.places 1)) (holds (s.places 1)) ls → (lines_run g ls s).full ≡ false → AreFollowed (s.places 1) ls s.history (lines_run g ls s)
 lines_follow g [] s k o going = record {
   entries = [];
   history = refl;
@@ -375,14 +375,14 @@ sync_is g s numbered ascending l o going =
 -- Phases.
 
 -- the run u was led by a phase with these lines from the history h
-record IsPhased (ls : List ScriptLine) (h : List StepRec) (u : Run) : Type 0 where
+pub record IsPhased (ls : List ScriptLine) (h : List StepRec) (u : Run) : Type 0 where
   pub entries : List StepRec
   pub history : u.history ≡ reverse entries ++ h
   pub phase : IsPhaseOf ls entries
   pub none_out : out u.history ≡ []
   pub at_rest : u.places 1 ≡ free
 
-phase_on : (g : Ground) (ls : List ScriptLine) (s : Run) → NumberedFrom 1 g.specs → IsModel g.first → s.places 1 ≡ free → out s.history ≡ [] → IsOrderly 1 false false ls →
+pub phase_on : (g : Ground) (ls : List ScriptLine) (s : Run) → NumberedFrom 1 g.specs → IsModel g.first → s.places 1 ≡ free → out s.history ≡ [] → IsOrderly 1 false false ls →
     Legal g (sync_run g (lines_run g ls s)).history → (sync_run g (lines_run g ls s)).full ≡ false → IsPhased ls s.history (sync_run g (lines_run g ls s))
 phase_on g ls s numbered ascending at o order legal going =
     let t : Run = lines_run g ls s in

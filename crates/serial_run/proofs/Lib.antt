@@ -9,3 +9,4 @@ pub mod Ending
 pub mod Counting
 pub mod Finishing
 pub mod Following
+pub mod Stopping

@@ -8,3 +8,4 @@ pub mod Running
 pub mod Runs
 pub mod Quiet
 pub mod Phased
+pub mod Stopped

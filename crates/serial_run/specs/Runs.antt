@@ -5,7 +5,7 @@ use Rattle.shelf_io.specs.Causes.{Rose}
 use Rattle.shelf_io.specs.Pieces.{Appended}
 use Rattle.audit_model.specs.declared.step.StepRec.{StepRec}
 use Rattle.audit_model.specs.declared.script.Phase.{Phase}
-use Rattle.audit_model.specs.History.{Ground}
+use Rattle.audit_model.specs.History.{Ground, out}
 use Rattle.audit_model.specs.Machine.{Legal}
 use Rattle.audit_model.specs.Output.{ends_phase, output}
 use Rattle.audit_model.specs.Serial.{fresh, phases_run, serial, meets_full}
@@ -40,12 +40,14 @@ pub record IsCut (g : Ground) (phases : List Phase) (journal : List StepRec) : T
   pub within : IsLater front (script_history g phases)
   pub back : reverse journal ≡ returned front
 
--- The sink failed in the text of the last phase, which is whole: that of all earlier phases was written, and a front of its own.
+-- The sink failed in the text of the last phase, which is whole, with no claim out: that of all earlier phases was written, and a front
+-- of its own.
 pub record IsUnwritten (g : Ground) (phases : List Phase) (old new : Option (List ℕ)) (journal : List StepRec) : Type 0 where
   pub within : IsLater (reverse journal) (script_history g phases)
   pub early : List StepRec
   pub later : IsLater early (reverse journal)
   pub ended : ends_now (reverse journal) ≡ true
+  pub none_out : out (reverse journal) ≡ []
   pub few : ends (reverse journal) ≤ ends early + 1
   pub last : List ℕ
   pub split : output g journal ≡ output g (reverse early) ++ last

@@ -1,9 +1,18 @@
 //! Laws of the runs of scripts of one editor. Each function does nothing: its contract is the law.
 ghost use Rattle.serial_run.specs.Phased.{ScriptIsPhased};
+ghost use Rattle.serial_run.specs.Stopped.{StopIsPhased};
 
 /// The journal that an orderly script of editor 1 makes, where no call is answered `Full`, falls into
 /// the phases of the script: in each the entries of the editor in the order of its lines, and then one
 /// drain with its report.
 pub fn script_is_phased()
     ensures { ScriptIsPhased }
+{}
+
+/// Where such a script was stopped, before a call that would be answered `Full`, for want of memory or
+/// by a failing sink, its journal falls into some whole phases and a front of the next: a front of the
+/// editor's lines, or all of them and a front of the drain. Then the claim that was held is given back
+/// by its own actor, and no claim is out.
+pub fn stop_is_phased()
+    ensures { StopIsPhased }
 {}

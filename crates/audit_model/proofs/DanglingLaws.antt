@@ -9,7 +9,7 @@ use Rattle.audit_model.specs.declared.commit.CommitRefusal.TheVariants.{Revision
 use Rattle.audit_model.specs.Models.{IsModel, AllAbove, instance_at, is_present}
 use Rattle.audit_model.specs.Judging.{references, is_dangling, least, newly_missing, dangling_from, dangling}
 use Rattle.audit_model.specs.Laws.{DanglesNewly, TellsDangling, DanglingIsLeast}
-use Rattle.audit_model.proofs.Tests.{Each, or_true}
+use Rattle.audit_model.proofs.Tests.{Each, or_true, with_one, without_one}
 use Rattle.audit_model.proofs.Tallies.{at_own}
 
 abbrev has : ℕ → List ℕ → Bool
@@ -69,15 +69,7 @@ kept p t (i ∷ ids) =
       | true ↦ λ e. ap (λ (b : Bool). (i == t) || b) (kept p t ids) ∙ with_one (i == t) (has t ids) (p t) (λ s. subst (λ (x : ℕ). p x ≡ true) (eqb-true i t s) e)
       | false ↦ λ e. kept p t ids ∙ without_one (i == t) (has t ids) (p t) (λ s. subst (λ (x : ℕ). p x ≡ false) (eqb-true i t s) e)
     ] in
-    at refl where
-      with_one : (a b c : Bool) → (a ≡ true → c ≡ true) → (a || (b && c)) ≡ ((a || b) && c)
-      with_one true b c h = sym (h refl)
-      with_one false b c h = refl
-
-      without_one : (a b c : Bool) → (a ≡ true → c ≡ false) → (b && c) ≡ ((a || b) && c)
-      without_one true true c h = refl
-      without_one true false c h = sym (h refl)
-      without_one false b c h = refl
+    at refl
 
 -- One instance.
 

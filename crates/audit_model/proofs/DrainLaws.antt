@@ -222,7 +222,7 @@ splits_next {g} {start} {done} {p} {ps} s = record { apart = s.apart; both = s.b
 -- Entries one after the other.
 
 -- these entries may follow the history, in this order
-abbrev AllMayFollow : Ground → List StepRec → List StepRec → Type 0
+abbrev pub AllMayFollow : Ground → List StepRec → List StepRec → Type 0
 AllMayFollow g h [] = Unit {0}
 AllMayFollow g h (e ∷ es) = MayFollow g h e × AllMayFollow g (e ∷ h) es
 
@@ -278,7 +278,7 @@ drains n r (p ∷ ps) = goes_on (drains (n + 1) r ps)
 
 -- Legal histories, the newest entry first.
 
-turned : (e : StepRec) (es h : List StepRec) → reverse (e ∷ es) ++ h ≡ reverse es ++ (e ∷ h)
+pub turned : (e : StepRec) (es h : List StepRec) → reverse (e ∷ es) ++ h ≡ reverse es ++ (e ∷ h)
 turned e es h = ap (λ (xs : List StepRec). xs ++ h) (reverse-append (e ∷ []) es) ∙ append_assoc (reverse es) (e ∷ []) h
 
 legal_joined : (g : Ground) (h es : List StepRec) → Legal g h → AllMayFollow g h es → Legal g (reverse es ++ h)
@@ -289,7 +289,7 @@ legal_older : (g : Ground) (xs h : List StepRec) → Legal g (xs ++ h) → Legal
 legal_older g [] h l = l
 legal_older g (x ∷ xs) h l = legal_older g xs h l.1
 
-legal_split : (g : Ground) (h es : List StepRec) → Legal g (reverse es ++ h) → AllMayFollow g h es
+pub legal_split : (g : Ground) (h es : List StepRec) → Legal g (reverse es ++ h) → AllMayFollow g h es
 legal_split g h [] l = tt
 legal_split g h (e ∷ es) l =
     let k : Legal g (reverse es ++ (e ∷ h)) = subst (λ (xs : List StepRec). Legal g xs) (turned e es h) l in

@@ -18,6 +18,7 @@ use Rattle.audit_model.specs.Models.{IsModel, AllAbove, instance_at, is_present,
 use Rattle.audit_model.specs.Edits.{without_instance, edited, apply, edit_id}
 use Rattle.audit_model.specs.Keys.{changes, changed_keys}
 use Rattle.audit_model.specs.Judging.{judge, judge_from, fault_of, refused_or, conflict_of, id_fault_of, dangling}
+use Rattle.audit_model.proofs.Tests.{with_one, without_one}
 use Rattle.audit_model.proofs.Frame.{same_place-refl}
 
 -- The model stays ascending.
@@ -152,15 +153,7 @@ keys_touched m n i (e ∷ es) =
       | true ↦ λ f. (λ t. same_inst (edit_id e) i t || keys_touched m n i es t) ∙ with_one (edit_id e == i) (list_any (λ x. edit_id x == i) es) (changes m n (Inst i)) (λ s. rw (← eqb-true (edit_id e) i s) f)
       | false ↦ λ f. keys_touched m n i es ∙ without_one (edit_id e == i) (list_any (λ x. edit_id x == i) es) (changes m n (Inst i)) (λ s. rw (← eqb-true (edit_id e) i s) f)
     ] in
-    at refl where
-      with_one : (a b c : Bool) → (a ≡ true → c ≡ true) → (a || (b && c)) ≡ ((a || b) && c)
-      with_one true b c h = sym (h refl)
-      with_one false b c h = refl
-
-      without_one : (a b c : Bool) → (a ≡ true → c ≡ false) → (b && c) ≡ ((a || b) && c)
-      without_one true true c h = refl
-      without_one true false c h = sym (h refl)
-      without_one false b c h = refl
+    at refl
 
 other_key : (i j : ℕ) (role : Role) → key_eq (Inst i) (Refs j role) ≡ false
 other_key i j role = and_right (i == j) (0 == (role_rank role + 1)) (ne_eqb 0 (role_rank role + 1) (λ e. absurd (omega (arith, e))))

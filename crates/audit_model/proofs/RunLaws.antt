@@ -1,7 +1,7 @@
 -- A run's drain is the one that may legally follow, and the output of a run of one `sync` is the report of the file.
 use Rattle.std.proofs.Common.{◌≡◌, ℕ, zero, suc, ◌+◌, ◌*◌, ◌≤◌, ◌⊎◌, inl, inr, Bool, true, false, not, cond, nat_le, nat_lt, ◌==◌, List, [], ◌∷◌, ◌++◌, filter, flat_map, reverse, length, Option, Some, None, arith, refl, ap, sym, subst, ◌∙◌}
 use Rattle.std.proofs.lemmas.Bool.{eq-eqb, le-leb, le-ltb}
-use Rattle.std.proofs.lemmas.List.{append-nil, append_assoc, reverse-append, reverse-reverse}
+use Rattle.std.proofs.lemmas.List.{append-nil, reverse-reverse}
 use Rattle.ifc_base.specs.declared.value.Instance.{Instance}
 use Rattle.audit_model.specs.declared.commit.Edit.{Edit}
 use Rattle.audit_model.specs.declared.verdict.Pair.{Pair}
@@ -14,34 +14,14 @@ use Rattle.audit_model.specs.Models.{IsModel}
 use Rattle.audit_model.specs.Pairs.{NumberedFrom}
 use Rattle.audit_model.specs.Report.{audit_text}
 use Rattle.audit_model.specs.History.{Ground, pairs_in, model_of, model_at, commits, revision, out, given, without_claim}
-use Rattle.audit_model.specs.Machine.{MayFollow, Legal, Holds, deliver_reply, is_full, pairs_now}
+use Rattle.audit_model.specs.Machine.{Legal, Holds, deliver_reply, is_full, pairs_now}
 use Rattle.audit_model.specs.Drain.{caller_entry, drain_from, drain, unsettled, drain_after}
 use Rattle.audit_model.specs.ScriptLines.{free}
 use Rattle.audit_model.specs.Serial.{Done, done, ended, with_room, given_to, with_delivery, after_delivery, after_claim, rounds, and_then, publish_done, drain_done}
 use Rattle.audit_model.specs.Output.{entry_text, editor_text, editors, ends_phase, report_in, phase_text, with_entry, whole_phases, output}
 use Rattle.audit_model.specs.RunLaws.{HasRoomToDrain, SyncDrainsFile, DrainIsDone, DrainEnds}
-use Rattle.audit_model.proofs.DrainLaws.{drain_follows, drain_of_file}
+use Rattle.audit_model.proofs.DrainLaws.{drain_follows, drain_of_file, AllMayFollow, turned, legal_split}
 use Rattle.audit_model.proofs.Tests.{Each, filter-length}
-
--- Entries one after the other.
-
--- these entries may follow the history, in this order
-abbrev AllMayFollow : Ground → List StepRec → List StepRec → Type 0
-AllMayFollow g h [] = Unit {0}
-AllMayFollow g h (e ∷ es) = MayFollow g h e × AllMayFollow g (e ∷ h) es
-
-turned : (e : StepRec) (es h : List StepRec) → reverse (e ∷ es) ++ h ≡ reverse es ++ (e ∷ h)
-turned e es h = ap (λ (xs : List StepRec). xs ++ h) (reverse-append (e ∷ []) es) ∙ append_assoc (reverse es) (e ∷ []) h
-
-legal_older : (g : Ground) (xs h : List StepRec) → Legal g (xs ++ h) → Legal g h
-legal_older g [] h l = l
-legal_older g (x ∷ xs) h l = legal_older g xs h l.1
-
-legal_split : (g : Ground) (h es : List StepRec) → Legal g (reverse es ++ h) → AllMayFollow g h es
-legal_split g h [] l = tt
-legal_split g h (e ∷ es) l =
-    let k : Legal g (reverse es ++ (e ∷ h)) = subst (λ (xs : List StepRec). Legal g xs) (turned e es h) l in
-    ((legal_older g (reverse es) (e ∷ h) k).0, legal_split g (e ∷ h) es k)
 
 -- Rounds.
 

@@ -1,5 +1,5 @@
 -- Tests of lists, one element at a time.
-use Rattle.std.proofs.Common.{◌≡◌, Bool, true, false, cond, not, ◌&&◌, ◌||◌, List, [], ◌∷◌, ◌++◌, refl, subst, length, find, Some, arith, filter, ◌≤◌, suc}
+use Rattle.std.proofs.Common.{◌≡◌, Bool, true, false, cond, not, ◌&&◌, ◌||◌, List, [], ◌∷◌, ◌++◌, refl, sym, subst, length, find, Some, arith, filter, ◌≤◌, suc}
 use Rattle.std.specs.List.{list_all, list_any}
 
 pub and_assoc : (a b c : Bool) → (a && (b && c)) ≡ ((a && b) && c)
@@ -22,6 +22,16 @@ and_over false b c = refl
 pub or_true : (a : Bool) → (a || true) ≡ true
 or_true true = refl
 or_true false = refl
+
+-- one more choice under the test c: a choice that passes c counts, one that fails it doesn't
+pub with_one : (a b c : Bool) → (a ≡ true → c ≡ true) → (a || (b && c)) ≡ ((a || b) && c)
+with_one true b c h = sym (h refl)
+with_one false b c h = refl
+
+pub without_one : (a b c : Bool) → (a ≡ true → c ≡ false) → (b && c) ≡ ((a || b) && c)
+without_one true true c h = refl
+without_one true false c h = sym (h refl)
+without_one false b c h = refl
 
 -- all pass both tests
 pub list_all-both : {X : Type 0} (p q r : X → Bool) → ((x : X) → r x ≡ (p x && q x)) → (xs : List X) → list_all r xs ≡ (list_all p xs && list_all q xs)

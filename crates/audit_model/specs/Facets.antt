@@ -1,5 +1,6 @@
 -- Which facets hold of an element of a model (IDS 1.0, facets). Entity facets with a simple name are built so far; every other
--- facet holds of nothing and has no subject, and no specification that is read has one.
+-- facet, and an entity facet that asks for a predefined type, holds of nothing and has no subject, and no specification that is
+-- read has one.
 use Rattle.std.specs.Prelude.{ℕ, Bool, true, false, ◌&&◌, List, Option, Some, None, is_none}
 use Rattle.ifc_base.specs.declared.value.Instance.{Instance}
 use Rattle.audit_model.specs.declared.facet.EntityFacet.{EntityFacet}

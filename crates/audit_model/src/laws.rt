@@ -1,6 +1,8 @@
 //! Laws of the definitions. Each function does nothing: its contract is the law.
 ghost use Rattle.audit_model.specs.Drain.{DrainFollows, DrainOfFile};
-ghost use Rattle.audit_model.specs.Laws.{CallsDetermine, DanglingIsLeast, EarlierModelsStay, LastChangeIsLast, ModelsAscend, NeedsCoverVerdict, OneReply, PairsAscend, RefusedChangesNothing, SettledByDelivery, SettledIsPair};
+ghost use Rattle.audit_model.specs.Laws.{CallsDetermine, DanglingIsLeast, EarlierModelsStay, LastChangeIsLast};
+ghost use Rattle.audit_model.specs.Laws.{ModelsAscend, NeedsCoverVerdict, OneReply, PairsAscend};
+ghost use Rattle.audit_model.specs.Laws.{RefusedChangesNothing, SettledByDelivery, SettledIsPair};
 
 /// After a history, an actor's call has at most one reply.
 pub fn one_reply()

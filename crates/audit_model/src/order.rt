@@ -4,7 +4,8 @@ ghost use Rattle.audit_model.specs.Models.{HasDistinctIds, IsModel, model_of_fil
 use ifc_base::{Instances, Memory};
 use std::alloc::Global;
 
-/// The model of a file: its instances in ascending id. The ids have to be distinct.
+/// The model of a file: its instances in ascending id. The ids have to be distinct. For want of memory
+/// the instances are dropped.
 /// `O(n log n)` in their number, and `O(n)` where they ascend already.
 pub fn in_order(alloc: Global, instances: Instances) -> Result<Instances, Memory>
     requires { HasDistinctIds instances }

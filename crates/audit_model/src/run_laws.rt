@@ -1,8 +1,8 @@
 //! Laws of the runs of scripts. Each function does nothing: its contract is the law.
 ghost use Rattle.audit_model.specs.RunLaws.{DrainEnds, DrainIsDone, OutputIsTold, SerialIsLegal, SyncDrainsFile};
 
-/// After a history in which no claim is out, the drain at the end of a phase is the only legal one,
-/// where the limit of steps has room for it.
+/// After a legal history in which no claim is out, the drain at the end of a phase is the only legal
+/// one, where the limit of steps has room for it.
 pub fn drain_is_done()
     ensures { DrainIsDone }
 {}
@@ -18,13 +18,13 @@ pub fn serial_is_legal()
     ensures { SerialIsLegal }
 {}
 
-/// After a history in which no claim is out, the drain at the end of a phase ends with the report, or
-/// before a call that would be answered `Full`.
+/// After a legal history in which no claim is out, the drain at the end of a phase ends with the
+/// report, or before a call that would be answered `Full`.
 pub fn drain_ends()
     ensures { DrainEnds }
 {}
 
-/// The output of a history with the lines of one editor is what is told of it entry by entry.
+/// The output of a legal history with the lines of one editor is what is told of it entry by entry.
 pub fn output_is_told()
     ensures { OutputIsTold }
 {}

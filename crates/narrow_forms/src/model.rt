@@ -17,7 +17,8 @@ use std::alloc::Global;
 use std::collections::BTreeSet;
 
 const HEADER: &[u8] =
-    b"ISO-10303-21;\nHEADER;\nFILE_DESCRIPTION((''),'2;1');\nFILE_NAME('','',(''),(''),'','','');\nFILE_SCHEMA(('IFC4'));\nENDSEC;\nDATA;\n";
+    b"ISO-10303-21;\nHEADER;\nFILE_DESCRIPTION((''),'2;1');\nFILE_NAME('','',(''),(''),'','','');\n\
+      FILE_SCHEMA(('IFC4'));\nENDSEC;\nDATA;\n";
 
 const LAST_LINE: &[u8] = b"END-ISO-10303-21;\n";
 
@@ -92,9 +93,9 @@ fn read_file<'a>(
 /// Reads a model file of the narrow form: its instances, in the file's order.
 ///
 /// The file has the seven lines of the header, from `ISO-10303-21;` to `DATA;`, then at most `most` instance lines
-/// `#n=KEYWORD(parameters);`, no two with one id, then `ENDSEC;` and `END-ISO-10303-21;`. A line feed ends each line, and nothing stands behind the last.
-/// Refused is the first line that is another one; where the bytes end before that, or go on behind the last line, the one behind
-/// the last line feed. A refusal leaves nothing behind.
+/// `#n=KEYWORD(parameters);`, no two with one id, then `ENDSEC;` and `END-ISO-10303-21;`. A line feed ends each line, and nothing
+/// stands behind the last. Refused is the first line that is another one; where the bytes end before that, or go on behind the
+/// last line, the one behind the last line feed. A refusal leaves nothing behind.
 ///
 /// `O(n log n)` for n instance lines, besides `O(bytes)`.
 pub fn read_model(alloc: Global, bytes: &[u8], most: u32) -> Result<Instances, Refusal<LineFault>>

@@ -5,7 +5,8 @@ ghost use Rattle.serde_json.specs.View.{view};
 ghost use Rattle.ifc_base.specs.Refusals.{OnFault};
 ghost use Rattle.narrow_forms.specs.Answers.{Answers};
 ghost use Rattle.narrow_forms.specs.SpecificationForm.{document, ReadsAs};
-ghost use Rattle.narrow_forms.specs.Specifications.{named_entity, specification_of, document_fault, specifications_in, specifications_reading, Holds};
+ghost use Rattle.narrow_forms.specs.Specifications.{named_entity, specification_of, document_fault, specifications_in};
+ghost use Rattle.narrow_forms.specs.Specifications.{specifications_reading, Holds};
 
 use crate::specification_form::names_in;
 use audit_model::{

@@ -1,6 +1,7 @@
 ghost use Rattle.std.specs.Fmt.{decimal};
 ghost use Rattle.std.specs.Prelude.{◌≡◌, ◌++◌, codes, IfOk, OnOk};
-ghost use Rattle.audit_model.specs.Report.{counts, failing_line, failing_lines, failing_why, line, numbers, pass_word, report_text, tallies_lines, tally_lines};
+ghost use Rattle.audit_model.specs.Report.{counts, failing_line, failing_lines, failing_why, line, numbers, pass_word};
+ghost use Rattle.audit_model.specs.Report.{report_text, tallies_lines, tally_lines};
 
 use crate::decimal::push_decimal;
 use crate::passing::{passes, passes_one};

@@ -1,4 +1,5 @@
-ghost use Rattle.std.specs.Prelude.{◌≡◌, ◌≢◌, ℕ, ◌+◌, ◌<◌, ◌≤◌, ◌^◌, ◌*◌, ◌↔◌, ◌++◌, [], List, Some, None, map, IsTrue, IfOk, OnOk, MatchResult};
+ghost use Rattle.std.specs.Prelude.{◌≡◌, ◌≢◌, ℕ, ◌+◌, ◌<◌, ◌≤◌, ◌^◌, ◌*◌, ◌↔◌, ◌++◌, [], List, Some, None, map, IsTrue, IfOk};
+ghost use Rattle.std.specs.Prelude.{OnOk, MatchResult};
 ghost use Rattle.std.specs.Option.{option_copied};
 ghost use Rattle.std.specs.Ordering.{nat_cmp};
 ghost use Rattle.std.specs.FinMap.{find};
@@ -50,7 +51,8 @@ pub(crate) trait Tier<V>: Drop {
         requires bits { (bits ≡ width) × (bits ≤ 40) }
         requires key { key < 2 ^ bits }
         ensures whole { OnOk result (IsWhole self.new) }
-        ensures pairs { MatchResult result (λ _. Updates key (Some value) (pairs self.old) (pairs self.new)) (λ back. back.1 ≡ value) };
+        ensures pairs { MatchResult result (λ _. Updates key (Some value) (pairs self.old) (pairs self.new))
+            (λ back. back.1 ≡ value) };
 
     /// The pairs without that of the key. It copies the nodes on the path to the key.
     fn without(&self, alloc: Global, bits: u32, key: u64) -> Result<Self, Memory>

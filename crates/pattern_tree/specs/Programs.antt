@@ -1,7 +1,7 @@
 -- The program of a pattern: its single-character parts in order, each as often as the repeats around it
 -- say, and the steps that lead the ways through it.
 use Rattle.std.specs.Prelude.{ℕ, zero, suc, ◌+◌, ◌-◌, ◌==◌, nat_lt, Option, Some, None, Bool, true, false, ◌&&◌, ◌||◌}
-use Rattle.std.specs.Prelude.{List, [], ◌∷◌, ◌++◌, length, map, fold, if◌then◌else◌}
+use Rattle.std.specs.Prelude.{List, [], ◌∷◌, ◌++◌, length, map, fold, take, if◌then◌else◌}
 use Rattle.pattern_tree.specs.declared.tree.Times.{Times}
 use Rattle.pattern_tree.specs.declared.tree.Tree.{Tree}
 use Rattle.pattern_tree.specs.declared.tree.Tree.TheOpen.{Tree-F}
@@ -31,11 +31,16 @@ joined parts = fold beside nothing parts
 abbrev pub gathered : Sides → Part → Sides
 gathered sides side =
     if length side.ops == 0 then record sides { blank = true }
-    else record { ops = sides.ops ++ side.ops ++ op.Next ∷ []; empty = sides.empty || side.empty; blank = sides.blank }
+    else record {
+      ops = sides.ops ++ side.ops ++ op.Next ∷ [];
+      empty = sides.empty || side.empty;
+      blank = sides.blank;
+      alone = length sides.ops == 0;
+    }
 
 -- before the first side
 abbrev pub no_sides : Sides
-no_sides = record { ops = []; empty = false; blank = false }
+no_sides = record { ops = []; empty = false; blank = false; alone = false }
 
 -- all sides
 abbrev pub all_gathered : List Part → Sides
@@ -48,13 +53,29 @@ forked sides = record {
   empty = sides.empty || sides.blank;
 }
 
--- ditto, but no steps where no side has any
-abbrev pub alternated : Sides → Part
-alternated sides = if sides.blank && length sides.ops == 0 then nothing else forked sides
+-- all steps but the last
+abbrev pub but_last : List Op → List Op
+but_last ops = take (length ops - 1) ops
 
--- one of the sides: the side itself where there is one alone
+-- the part, or the empty text
+abbrev pub optional : Part → Part
+optional part =
+    if part.empty then part else record { ops = op.Fork ∷ part.ops ++ op.Next ∷ op.Next ∷ op.Join ∷ []; empty = true }
+
+-- the side of these steps alone, and the empty text where a side without steps stands beside it
+abbrev pub only : Sides → Part
+only sides =
+    (let side : Part = record { ops = but_last sides.ops; empty = sides.empty } in if sides.blank then optional side else side)
+
+-- one of the sides: no steps where no side has any, and no fork where one side alone has some
+abbrev pub alternated : Sides → Part
+alternated sides =
+    if sides.alone then only sides
+    else if sides.blank && length sides.ops == 0 then nothing
+    else forked sides
+
+-- one of the parts
 abbrev pub chosen : List Part → Part
-chosen (only ∷ []) = only
 chosen parts = alternated (all_gathered parts)
 
 -- so many copies
@@ -62,14 +83,20 @@ abbrev pub power : ℕ → List Op → List Op
 power zero ops = []
 power (suc n) ops = ops ++ power n ops
 
--- the part, or the empty text
-abbrev pub optional : Part → Part
-optional part =
-    if part.empty then part else record { ops = op.Fork ∷ part.ops ++ op.Next ∷ op.Next ∷ op.Join ∷ []; empty = true }
+-- the step begins a repeat without end that ends so many steps further on
+abbrev pub spans : Op → ℕ → Bool
+spans (op.Enter far) n = far == n
+spans _ n = false
 
--- the part again and again
+-- the steps within, where all steps are one repeat without end; else all of them
+abbrev pub within : List Op → List Op
+within [] = []
+within (first ∷ ops) = if spans first (length ops) then but_last ops else first ∷ ops
+
+-- the part again and again; of a part that is such a repeat itself, what that one repeats
 abbrev pub endless : Part → Bool → Part
-endless part empty = record { ops = op.Enter (length part.ops + 1) ∷ part.ops ++ op.Leave empty ∷ []; empty = empty }
+endless part empty =
+    (let ops = within part.ops in record { ops = op.Enter (length ops + 1) ∷ ops ++ op.Leave empty ∷ []; empty = empty })
 
 -- so many copies, and up to so many further ones
 abbrev pub up_to : Part → ℕ → ℕ → Part

@@ -42,6 +42,8 @@ struct Sides {
     empty: bool,
     /// Whether a side without steps is among them.
     blank: bool,
+    /// Whether one side alone has steps.
+    alone: bool,
 }
 
 /// The program of the pattern, and of which sets: `sets` is the number of those that stand before it,
@@ -124,6 +126,7 @@ fn gather(alloc: Global, sides: &mut Sides, side: &Part) -> Result<(), Memory>
         sides.blank = true;
         return Ok(());
     }
+    sides.alone = sides.ops.is_empty();
     extend(alloc, &mut sides.ops, side.ops.as_slice())?;
     sides.ops.push(Op::Next)?;
     sides.empty = sides.empty || side.empty;
@@ -139,6 +142,7 @@ fn gather_all(alloc: Global, parts: &[Part]) -> Result<Sides, Memory>
         ops: Items::new(alloc),
         empty: false,
         blank: false,
+        alone: false,
     };
     for part in parts {
         gather(alloc, &mut sides, part)?;
@@ -146,14 +150,37 @@ fn gather_all(alloc: Global, parts: &[Part]) -> Result<Sides, Memory>
     Ok(sides)
 }
 
-/// One of the sides: the side itself where there is one alone, and no steps where no side has any.
+/// All steps but the last.
+fn but_last(steps: &[Op]) -> &[Op]
+    ensures { result.now ≡ spec.but_last steps.now }
+{
+    &steps[..steps.len().saturating_sub(1)]
+}
+
+/// The side that has steps where one alone has some, and the empty text where one without steps stands
+/// beside it.
+fn only(alloc: Global, sides: &Sides) -> Result<Part, Memory>
+    ensures { IfOk result (λ part. part ≡ spec.only sides.now) }
+{
+    let side = Part {
+        ops: Items::from_slice(alloc, but_last(sides.ops.as_slice()))?,
+        empty: sides.empty,
+    };
+    if sides.blank {
+        optional(alloc, &side)
+    } else {
+        Ok(side)
+    }
+}
+
+/// One of the sides: no steps where no side has any, and no fork where one side alone has some.
 fn choose(alloc: Global, parts: &[Part]) -> Result<Part, Memory>
     ensures { IfOk result (λ part. part ≡ spec.chosen parts.now) }
 {
-    if let [only] = parts {
-        return copied(alloc, only);
-    }
     let sides = gather_all(alloc, parts)?;
+    if sides.alone {
+        return only(alloc, &sides);
+    }
     if sides.blank && sides.ops.is_empty() {
         return Ok(Part {
             ops: Items::new(alloc),
@@ -216,11 +243,22 @@ fn optional(alloc: Global, part: &Part) -> Result<Part, Memory>
     Ok(Part { ops, empty: true })
 }
 
-/// The part again and again, once at least or, by the flag, not at all.
+/// The steps within, where all steps are one repeat without end; else all of them.
+fn within(steps: &[Op]) -> &[Op]
+    ensures { result.now ≡ spec.within steps.now }
+{
+    match steps.split_first() {
+        Some((Op::Enter(far), others)) if *far == others.len() => but_last(others),
+        _ => steps,
+    }
+}
+
+/// The part again and again, once at least or, by the flag, not at all. Of a part that is such a repeat
+/// itself, what that one repeats is repeated.
 fn endless(alloc: Global, part: &Part, empty: bool) -> Result<Part, Memory>
     ensures { IfOk result (λ whole. whole ≡ spec.endless part.now empty) }
 {
-    let steps = part.ops.as_slice();
+    let steps = within(part.ops.as_slice());
     let mut ops = Items::new(alloc);
     ops.push(Op::Enter(steps.len() + 1))?;
     extend(alloc, &mut ops, steps)?;
@@ -239,6 +277,7 @@ fn repeat(alloc: Global, part: &Part, times: Times) -> Result<Part, Memory>
                 ops: Items::new(alloc),
                 empty: false,
                 blank: false,
+                alone: false,
             },
         ),
         _ if part.ops.is_empty() => copied(alloc, part),

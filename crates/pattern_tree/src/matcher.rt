@@ -1,12 +1,12 @@
 ghost use Rattle.std.specs.Prelude.{◌≡◌, ◌↔◌, IfOk, OnOk, IsTrue, chars, length, vec_len};
 ghost use Rattle.pattern_tree.specs.Matching.{Matches};
-ghost use Rattle.pattern_tree.specs.Trees.{sets_of, hits_in};
+ghost use Rattle.pattern_tree.specs.Trees.{values, hits_in};
 ghost use Rattle.pattern_tree.specs.Machine.{reached_of, taken, begun, is_matched};
 
 use crate::machine::{Kept, pass};
 use crate::program::{Op, Part, compile};
-use crate::set::push_hits;
-use crate::tree::Tree;
+use crate::set::{push_hits, push_sets};
+use crate::tree::{Set, Tree};
 use ifc_base::Memory;
 use std::alloc::Global;
 
@@ -46,14 +46,16 @@ struct Room {
 pub fn matches(alloc: Global, tree: &Tree, text: &str) -> Result<bool, Memory>
     ensures { IfOk result (λ answer. IsTrue answer ↔ Matches tree.now (chars text.now)) }
 {
-    let mut sets = 0;
-    let part = compile(alloc, tree, &mut sets)?;
-    runs_to_end(alloc, tree, &part, text)
+    let mut number = 0;
+    let part = compile(alloc, tree, &mut number)?;
+    let mut sets = Vec::new(alloc);
+    push_sets(tree, &mut sets)?;
+    runs_to_end(alloc, sets.as_slice(), &part, text)
 }
 
-/// Whether the program of the pattern matches the text.
-fn runs_to_end(alloc: Global, tree: &Tree, part: &Part, text: &str) -> Result<bool, Memory>
-    ensures { IfOk result (λ answer. answer ≡ is_matched (sets_of tree.now) part.now (chars text.now)) }
+/// Whether the program of a pattern with these sets matches the text.
+fn runs_to_end(alloc: Global, sets: &[&Set], part: &Part, text: &str) -> Result<bool, Memory>
+    ensures { IfOk result (λ answer. answer ≡ is_matched (values sets.now) part.now (chars text.now)) }
 {
     let ops = part.ops.as_slice();
     let mut progress = Progress {
@@ -66,14 +68,14 @@ fn runs_to_end(alloc: Global, tree: &Tree, part: &Part, text: &str) -> Result<bo
         kept: Vec::new(alloc),
     };
     for c in text.chars() {
-        take(tree, ops, &mut progress, &mut room, c)?;
+        take(sets, ops, &mut progress, &mut room, c)?;
     }
     Ok(progress.ends)
 }
 
 /// Takes one character.
 fn take(
-    tree: &Tree,
+    sets: &[&Set],
     ops: &[Op],
     progress: &mut Progress,
     room: &mut Room,
@@ -82,10 +84,10 @@ fn take(
     requires { vec_len progress.old.marks ≡ length ops.now }
     ensures size { vec_len progress.new.marks ≡ length ops.now }
     ensures reached { OnOk result
-        (reached_of progress.new ≡ taken (hits_in (sets_of tree.now)) ops.now (reached_of progress.old) c) }
+        (reached_of progress.new ≡ taken (hits_in (values sets.now)) ops.now (reached_of progress.old) c) }
 {
     room.hits.clear();
-    push_hits(tree, c, &mut room.hits)?;
+    push_hits(sets, c, &mut room.hits)?;
     let wire = pass(
         ops,
         room.hits.as_slice(),

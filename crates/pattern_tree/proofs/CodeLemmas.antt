@@ -1,5 +1,5 @@
 -- What the loops of the code want to know of lists.
-use Rattle.std.proofs.Common.{◌≡◌, ◌<◌, ◌+◌, ℕ, zero, suc, Bool, List, [], ◌∷◌, ◌++◌, length, map, take, get_or, refl, sym, ap, ◌∙◌, arith, append_assoc, add-one}
+use Rattle.std.proofs.Common.{◌≡◌, ◌≢◌, ◌<◌, ◌+◌, ◌-◌, ℕ, zero, suc, Bool, List, [], ◌∷◌, ◌++◌, length, map, take, get_or, fold, refl, sym, ap, ◌∙◌, arith, append_assoc, add-one}
 use Rattle.std.specs.Prelude.{reverse}
 use Rattle.std.specs.Borrow.{Bor}
 use Rattle.std.proofs.lemmas.List.{append-nil, reverse-append}
@@ -64,6 +64,11 @@ pub copies_step : (n : ℕ) (part old now new : List Op) → now ≡ old ++ powe
 copies_step n part old now new e f =
     f ∙ ap (λ t. t ++ part) e ∙ append_assoc old (power n part) part ∙ ap (λ t. old ++ t) (sym (power_more n part))
 
+pub copies_last : (n : ℕ) (part old now new : List Op) → n ≢ 0 → now ≡ old ++ power (n - 1) part → new ≡ now ++ part → new ≡ old ++ power n part
+copies_last n part old now new some e f =
+    let number : (n - 1) + 1 ≡ n = omega arith in
+    copies_step (n - 1) part old now new e f ∙ ap (λ k. old ++ power k part) number
+
 pub sets_step : (ts : List Tree) (i : ℕ) (t : Tree) (old now new : List Set) → i < length ts → t ≡ get_or ts i t → now ≡ old ++ one_after_another (map sets_of (take i ts))
     → new ≡ now ++ sets_of t → new ≡ old ++ one_after_another (map sets_of (take (i + 1) ts))
 sets_step ts i t old now new h e f g =
@@ -74,12 +79,21 @@ sets_step ts i t old now new h e f g =
     ∙ ap (λ x. old ++ (before ++ sets_of x)) e
     ∙ ap (λ l. old ++ l) (sym (sets_more ts i t h))
 
-pub programs_step : (ts : List Tree) (i : ℕ) (t : Tree) (n : ℕ) (parts : List Part) (sets : ℕ) (p : Part) (sets' : ℕ) (parts' : List Part)
-    → i < length ts → t ≡ get_or ts i t → programs (take i ts) n ≡ (let r : List Part × ℕ = (parts, sets) in r) → program t sets ≡ (let r : Part × ℕ = (p, sets') in r) → parts' ≡ parts ++ p ∷ []
-    → programs (take (i + 1) ts) n ≡ (let r : List Part × ℕ = (parts', sets') in r)
-programs_step ts i t n parts sets p sets' parts' h e f g k =
-    programs_more ts i t n h
-    ∙ ap (λ (r : List Part × ℕ). let q = program (get_or ts i t) r.1 in let x : List Part × ℕ = (r.0 ++ q.0 ∷ [], q.1) in x) f
-    ∙ ap (λ y. let q = program y sets in let x : List Part × ℕ = (parts ++ q.0 ∷ [], q.1) in x) (sym e)
-    ∙ ap (λ (q : Part × ℕ). let x : List Part × ℕ = (parts ++ q.0 ∷ [], q.1) in x) g
-    ∙ ap (λ l. let x : List Part × ℕ = (l, sets') in x) (sym k)
+fold_behind : {S : Type 0} (f : S → Part → S) (start : S) (ps : List Part) (p : Part) → fold f start (ps ++ p ∷ []) ≡ f (fold f start ps) p
+fold_behind f start [] p = refl
+fold_behind f start (q ∷ ps) p = fold_behind f (f start q) ps p
+
+-- one more program, where programs are taken one after another
+pub programs_step : {S : Type 0} (f : S → Part → S) (start : S) (ts : List Tree) (i : ℕ) (t : Tree) (n : ℕ) (now : S) (sets : ℕ) (p : Part) (sets' : ℕ) (new : S)
+    → i < length ts → t ≡ get_or ts i t → (let q : S × ℕ = (fold f start (programs (take i ts) n).0, (programs (take i ts) n).1) in q) ≡ (now, sets)
+    → program t sets ≡ (let r : Part × ℕ = (p, sets') in r) → new ≡ f now p
+    → (let q : S × ℕ = (fold f start (programs (take (i + 1) ts) n).0, (programs (take (i + 1) ts) n).1) in q) ≡ (new, sets')
+programs_step {S} f start ts i t n now sets p sets' new h e g k l =
+    let before = programs (take i ts) n in
+    let last = program (get_or ts i t) before.1 in
+    ap (λ (r : List Part × ℕ). let q : S × ℕ = (fold f start r.0, r.1) in q) (programs_more ts i t n h)
+    ∙ ap (λ y. let q : S × ℕ = (y, last.1) in q) (fold_behind f start before.0 last.0)
+    ∙ ap (λ (x : S × ℕ). let r = program (get_or ts i t) x.1 in let q : S × ℕ = (f x.0 r.0, r.1) in q) g
+    ∙ ap (λ y. let r = program y sets in let q : S × ℕ = (f now r.0, r.1) in q) (sym e)
+    ∙ ap (λ (r : Part × ℕ). let q : S × ℕ = (f now r.0, r.1) in q) k
+    ∙ ap (λ y. let q : S × ℕ = (y, sets') in q) (sym l)

@@ -6,7 +6,7 @@ use Rattle.pattern_tree.specs.Matching.{Text}
 use Rattle.pattern_tree.specs.declared.program.Op.{Op}
 use Rattle.pattern_tree.specs.declared.program.Op.TheVariants as op
 use Rattle.pattern_tree.specs.declared.program.Part.{Part}
-use Rattle.pattern_tree.specs.Programs.{but_last, spans, within, endless}
+use Rattle.pattern_tree.specs.Programs.{but_last, spans, is_loop, endless}
 use Rattle.pattern_tree.proofs.Booleans.{truth, and_true}
 use Rattle.pattern_tree.proofs.Expressions.{Expr, one, blank, both, never, either, loop, Power, Powers, Hits, Takes, takes_empty, Fine}
 use Rattle.pattern_tree.proofs.Joins.{power_map, power_join}
@@ -89,37 +89,37 @@ enters (loop b p) far ops h =
     let number : length (code false p ++ op.Leave b ∷ []) ≡ length ops = ap length tail in
     omega (arith, length-append (code false p) (op.Leave b ∷ []))
 
--- the expression is the repeat of one of these steps
-record IsLoop (hit : Hits) (e : Expr) (steps : List Op) : Type 0 where
+-- the expression is one repeat
+record IsLoop (hit : Hits) (e : Expr) : Type 0 where
   pub flag : Bool
   pub body : Expr
-  pub is : code false body ≡ steps
+  pub is : code false e ≡ code false (loop flag body)
   pub empty : takes_empty e ≡ flag
-  pub fine : Fine e → (takes_empty body ≡ true → flag ≡ true) × Fine body
+  pub fine : Fine e → Fine (loop flag body)
   pub sound : (s : Text) → Takes hit e s → Powers flag (Takes hit body) s
   pub complete : (s : Text) → Powers flag (Takes hit body) s → Takes hit e s
 
 -- beside an expression without steps it stays one
-idle_first : (hit : Hits) (p q : Expr) (steps : List Op) → code false p ≡ [] → IsLoop hit q steps → IsLoop hit (both p q) steps
-idle_first hit p q steps none h =
+idle_first : (hit : Hits) (p q : Expr) → code false p ≡ [] → IsLoop hit q → IsLoop hit (both p q)
+idle_first hit p q none h =
     let rest = idle hit p none in
     record {
       flag = h.flag;
       body = h.body;
-      is = h.is;
+      is = ap (λ l. l ++ code false q) none ∙ h.is;
       empty = ap (λ x. x && takes_empty q) rest.empty ∙ h.empty;
       fine = λ f. h.fine f.1;
       sound = λ s t. h.sound s (subst (Takes hit q) (sym (t.parts ∙ ap (λ x. x ++ t.back) (rest.only t.front t.first))) t.second);
       complete = λ s t. record { front = []; back = s; parts = refl; first = empty_to_takes hit p rest.empty; second = h.complete s t };
     }
 
-idle_second : (hit : Hits) (p q : Expr) (steps : List Op) → code false q ≡ [] → IsLoop hit p steps → IsLoop hit (both p q) steps
-idle_second hit p q steps none h =
+idle_second : (hit : Hits) (p q : Expr) → code false q ≡ [] → IsLoop hit p → IsLoop hit (both p q)
+idle_second hit p q none h =
     let rest = idle hit q none in
     record {
       flag = h.flag;
       body = h.body;
-      is = h.is;
+      is = ap (λ l. code false p ++ l) none ∙ append-nil (code false p) ∙ h.is;
       empty = ap (λ x. takes_empty p && x) rest.empty ∙ and_true (takes_empty p) ∙ h.empty;
       fine = λ f. h.fine f.0;
       sound = λ s t. h.sound s (subst (Takes hit p) (sym (t.parts ∙ ap (λ x. t.front ++ x) (rest.only t.back t.second) ∙ append-nil t.front)) t.first);
@@ -127,10 +127,10 @@ idle_second hit p q steps none h =
     }
 
 both_loop : (hit : Hits) (p q : Expr) (xs ys : List Op) → code false p ≡ xs → code false q ≡ ys
-    → ((n : ℕ) (os : List Op) → code false p ≡ op.Enter n ∷ os → n ≡ length os → IsLoop hit p (but_last os))
-    → ((n : ℕ) (os : List Op) → code false q ≡ op.Enter n ∷ os → n ≡ length os → IsLoop hit q (but_last os))
-    → (far : ℕ) (ops : List Op) → xs ++ ys ≡ op.Enter far ∷ ops → far ≡ length ops → IsLoop hit (both p q) (but_last ops)
-both_loop hit p q [] ys e f hp hq far ops h l = idle_first hit p q (but_last ops) e (hq far ops (f ∙ h) l)
+    → ((n : ℕ) (os : List Op) → code false p ≡ op.Enter n ∷ os → n ≡ length os → IsLoop hit p)
+    → ((n : ℕ) (os : List Op) → code false q ≡ op.Enter n ∷ os → n ≡ length os → IsLoop hit q)
+    → (far : ℕ) (ops : List Op) → xs ++ ys ≡ op.Enter far ∷ ops → far ≡ length ops → IsLoop hit (both p q)
+both_loop hit p q [] ys e f hp hq far ops h l = idle_first hit p q e (hq far ops (f ∙ h) l)
 both_loop hit p q (x ∷ xs) ys e f hp hq far ops h l =
     let head : x ≡ op.Enter far = cc in
     let tail : (xs ++ ys) ≡ ops = cc in
@@ -138,12 +138,10 @@ both_loop hit p q (x ∷ xs) ys e f hp hq far ops h l =
     let less : far ≤ length xs = enters p far xs here in
     let number : length (xs ++ ys) ≡ length ops = ap length tail in
     let none : length ys ≡ 0 = omega (arith, length-append xs ys) in
-    let nothing : ys ≡ [] = nil_from_length ys none in
-    let same : xs ≡ ops = sym (append-nil xs) ∙ ap (λ t. xs ++ t) (sym nothing) ∙ tail in
-    subst (λ os. IsLoop hit (both p q) (but_last os)) same
-    (idle_second hit p q (but_last xs) (f ∙ nothing) (hp far xs here (l ∙ ap length (sym same))))
+    let whole : far ≡ length xs = omega (arith, length-append xs ys) in
+    idle_second hit p q (f ∙ nil_from_length ys none) (hp far xs here whole)
 
-loop_of : (hit : Hits) (e : Expr) (far : ℕ) (ops : List Op) → code false e ≡ op.Enter far ∷ ops → far ≡ length ops → IsLoop hit e (but_last ops)
+loop_of : (hit : Hits) (e : Expr) (far : ℕ) (ops : List Op) → code false e ≡ op.Enter far ∷ ops → far ≡ length ops → IsLoop hit e
 loop_of hit (one k) far ops h l = absurd (cc)
 loop_of hit blank far ops h l = absurd (cc)
 loop_of hit (both p q) far ops h l =
@@ -151,66 +149,61 @@ loop_of hit (both p q) far ops h l =
 loop_of hit never far ops h l = absurd (cc)
 loop_of hit (either p q) far ops h l = absurd (cc)
 loop_of hit (loop b p) far ops h l =
-    let tail : (code false p ++ op.Leave b ∷ []) ≡ ops = cc in
-    record {
-      flag = b;
-      body = p;
-      is = sym (but_last_of (code false p) (op.Leave b)) ∙ ap but_last tail;
-      empty = refl;
-      fine = λ f. f;
-      sound = λ s t. t;
-      complete = λ s t. t;
-    }
+    record { flag = b; body = p; is = refl; empty = refl; fine = λ f. f; sound = λ s t. t; complete = λ s t. t }
+
+-- steps that begin such a repeat, which ends with the last of them
+loop_steps : (hit : Hits) (e : Expr) (first : Op) (ops : List Op) → code false e ≡ first ∷ ops → spans first (length ops) ≡ true → IsLoop hit e
+loop_steps hit e (op.Enter far) ops h f = loop_of hit e far ops h (eqb-true far (length ops) f)
+loop_steps hit e (op.One at) ops h f = absurd (cc)
+loop_steps hit e op.Fork ops h f = absurd (cc)
+loop_steps hit e op.Next ops h f = absurd (cc)
+loop_steps hit e op.Join ops h f = absurd (cc)
+loop_steps hit e (op.Leave empty) ops h f = absurd (cc)
+
+loop_list : (hit : Hits) (e : Expr) (ops : List Op) → code false e ≡ ops → is_loop ops ≡ true → IsLoop hit e
+loop_list hit e [] h f = absurd (cc)
+loop_list hit e (first ∷ ops) h f = loop_steps hit e first ops h f
 
 -- ---- again and again
 
--- a repeat of these steps
-abbrev again : List Op → Bool → Part
-again steps b = record { ops = op.Enter (length steps + 1) ∷ steps ++ op.Leave b ∷ []; empty = b }
-
-again_so : (hit : Hits) (body : Expr) (steps : List Op) (b : Bool) (P : Text → Type 0) → code false body ≡ steps → (takes_empty body ≡ true → b ≡ true) → Fine body
-    → ((s : Text) → Powers b (Takes hit body) s → Powers b P s) → ((s : Text) → Powers b P s → Powers b (Takes hit body) s) → Spells hit (again steps b) (Powers b P)
-again_so hit body steps b P e less fine to from = record {
-  expr = loop b body;
-  is = record { ops = ap (λ l. op.Enter (length l + 1) ∷ l ++ op.Leave b ∷ []) (sym e); empty = refl; fine = (less, fine) };
-  sound = to;
-  complete = from;
+-- a part that is no such repeat
+plain_so : (hit : Hits) (p : Part) (b : Bool) (P : Text → Type 0) → (p.empty ≡ true → b ≡ true) → Spells hit p P
+    → Spells hit (record { ops = op.Enter (length p.ops + 1) ∷ p.ops ++ op.Leave b ∷ []; empty = b }) (Powers b P)
+plain_so hit p b P less h = record {
+  expr = loop b h.expr;
+  is = record {
+    ops = ap (λ l. op.Enter (length l + 1) ∷ l ++ op.Leave b ∷ []) h.is.ops;
+    empty = refl;
+    fine = (λ e. less (h.is.empty ∙ e), h.is.fine);
+  };
+  sound = powers_map b (Takes hit h.expr) P h.sound;
+  complete = powers_map b P (Takes hit h.expr) h.complete;
 }
 
--- of any steps
-plain_so : (hit : Hits) (p : Part) (b : Bool) (P : Text → Type 0) (ops : List Op) → p.ops ≡ ops → (p.empty ≡ true → b ≡ true) → Spells hit p P → Spells hit (again ops b) (Powers b P)
-plain_so hit p b P ops e less h =
-    again_so hit h.expr ops b P (sym h.is.ops ∙ e) (λ t. less (h.is.empty ∙ t)) h.is.fine
-    (powers_map b (Takes hit h.expr) P h.sound)
-    (powers_map b P (Takes hit h.expr) h.complete)
-
--- of steps that are such a repeat
-nested_so : (hit : Hits) (p : Part) (b : Bool) (P : Text → Type 0) (far : ℕ) (ops : List Op) → p.ops ≡ op.Enter far ∷ ops → far ≡ length ops → (p.empty ≡ true → b ≡ true) → Spells hit p P
-    → Spells hit (again (but_last ops) b) (Powers b P)
-nested_so hit p b P far ops e l less h =
-    let inner = loop_of hit h.expr far ops (sym h.is.ops ∙ e) l in
-    let fine = inner.fine h.is.fine in
+-- a part that is such a repeat
+nested_so : (hit : Hits) (p : Part) (b : Bool) (P : Text → Type 0) → (p.empty ≡ true → b ≡ true) → (h : Spells hit p P) → IsLoop hit h.expr
+    → Spells hit (record { ops = but_last p.ops ++ op.Leave b ∷ []; empty = b }) (Powers b P)
+nested_so hit p b P less h inner =
+    let steps = code false inner.body in
     let held : inner.flag ≡ true → b ≡ true = λ t. less (h.is.empty ∙ inner.empty ∙ t) in
+    let fine = inner.fine h.is.fine in
     let Q : Text → Type 0 = Powers inner.flag (Takes hit inner.body) in
-    again_so hit inner.body (but_last ops) b P inner.is (λ t. held (fine.0 t)) fine.1
-    (λ s t. powers_map b Q P (λ u x. h.sound u (inner.complete u x)) s (powers_nested b inner.flag (Takes hit inner.body) s t))
-    (λ s t. powers_flat b inner.flag (Takes hit inner.body) held s (powers_map b P Q (λ u x. inner.sound u (h.complete u x)) s t))
+    record {
+      expr = loop b inner.body;
+      is = record {
+        ops = ap (λ l. but_last l ++ op.Leave b ∷ []) (h.is.ops ∙ inner.is)
+            ∙ ap (λ l. l ++ op.Leave b ∷ []) (but_last_of (op.Enter (length steps + 1) ∷ steps) (op.Leave inner.flag));
+        empty = refl;
+        fine = (λ t. held (fine.0 t), fine.1);
+      };
+      sound = λ s t. powers_map b Q P (λ u x. h.sound u (inner.complete u x)) s (powers_nested b inner.flag (Takes hit inner.body) s t);
+      complete = λ s t. powers_flat b inner.flag (Takes hit inner.body) held s (powers_map b P Q (λ u x. inner.sound u (h.complete u x)) s t);
+    }
 
-endless_first : (hit : Hits) (p : Part) (b : Bool) (P : Text → Type 0) (first : Op) (ops : List Op) (i : Bool) → spans first (length ops) ≡ i → p.ops ≡ first ∷ ops → (p.empty ≡ true → b ≡ true) → Spells hit p P
-    → Spells hit (again (if i then but_last ops else first ∷ ops) b) (Powers b P)
-endless_first hit p b P first ops false f e less h = plain_so hit p b P (first ∷ ops) e less h
-endless_first hit p b P (op.Enter far) ops true f e less h =
-    nested_so hit p b P far ops e (eqb-true far (length ops) f) less h
-endless_first hit p b P (op.One at) ops true f e less h = absurd (cc)
-endless_first hit p b P op.Fork ops true f e less h = absurd (cc)
-endless_first hit p b P op.Next ops true f e less h = absurd (cc)
-endless_first hit p b P op.Join ops true f e less h = absurd (cc)
-endless_first hit p b P (op.Leave empty) ops true f e less h = absurd (cc)
-
-endless_by : (hit : Hits) (p : Part) (b : Bool) (P : Text → Type 0) (ops : List Op) → p.ops ≡ ops → (p.empty ≡ true → b ≡ true) → Spells hit p P → Spells hit (again (within ops) b) (Powers b P)
-endless_by hit p b P [] e less h = plain_so hit p b P [] e less h
-endless_by hit p b P (first ∷ ops) e less h =
-    endless_first hit p b P first ops (spans first (length ops)) refl e less h
+endless_by : (hit : Hits) (p : Part) (b : Bool) (P : Text → Type 0) (i : Bool) → is_loop p.ops ≡ i → (p.empty ≡ true → b ≡ true) → Spells hit p P
+    → Spells hit (record { ops = if i then but_last p.ops ++ op.Leave b ∷ [] else op.Enter (length p.ops + 1) ∷ p.ops ++ op.Leave b ∷ []; empty = b }) (Powers b P)
+endless_by hit p b P true e less h = nested_so hit p b P less h (loop_list hit h.expr p.ops (sym h.is.ops) e)
+endless_by hit p b P false e less h = plain_so hit p b P less h
 
 pub endless_so : (hit : Hits) (p : Part) (b : Bool) (P : Text → Type 0) → (p.empty ≡ true → b ≡ true) → Spells hit p P → Spells hit (endless p b) (Powers b P)
-endless_so hit p b P less h = endless_by hit p b P p.ops refl less h
+endless_so hit p b P less h = endless_by hit p b P (is_loop p.ops) refl less h

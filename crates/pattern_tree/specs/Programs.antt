@@ -88,15 +88,19 @@ abbrev pub spans : Op → ℕ → Bool
 spans (op.Enter far) n = far == n
 spans _ n = false
 
--- the steps within, where all steps are one repeat without end; else all of them
-abbrev pub within : List Op → List Op
-within [] = []
-within (first ∷ ops) = if spans first (length ops) then but_last ops else first ∷ ops
+-- all steps are one repeat without end
+abbrev pub is_loop : List Op → Bool
+is_loop [] = false
+is_loop (first ∷ ops) = spans first (length ops)
 
--- the part again and again; of a part that is such a repeat itself, what that one repeats
+-- the part again and again; a part that is such a repeat itself only ends otherwise
 abbrev pub endless : Part → Bool → Part
-endless part empty =
-    (let ops = within part.ops in record { ops = op.Enter (length ops + 1) ∷ ops ++ op.Leave empty ∷ []; empty = empty })
+endless part empty = record {
+  ops =
+      if is_loop part.ops then but_last part.ops ++ op.Leave empty ∷ []
+      else op.Enter (length part.ops + 1) ∷ part.ops ++ op.Leave empty ∷ [];
+  empty = empty;
+}
 
 -- so many copies, and up to so many further ones
 abbrev pub up_to : Part → ℕ → ℕ → Part
@@ -122,11 +126,18 @@ abbrev pub in_turn : List (ℕ → Part × ℕ) → ℕ → List Part × ℕ
 in_turn [] n = ([], n)
 in_turn (program ∷ programs) n = (let p = program n in let rest = in_turn programs p.1 in (p.0 ∷ rest.0, rest.1))
 
+-- the parts one behind the other, and one of them, with the number of sets up to their end
+abbrev pub in_sequence : List Part × ℕ → Part × ℕ
+in_sequence parts = (joined parts.0, parts.1)
+
+abbrev pub in_choice : List Part × ℕ → Part × ℕ
+in_choice parts = (chosen parts.0, parts.1)
+
 -- the program at one level
 abbrev pub program_at : Level (ℕ → Part × ℕ) → ℕ → Part × ℕ
 program_at (Tree-F.Set set) n = (single n, n + 1)
-program_at (Tree-F.Sequence parts) n = (joined (in_turn parts n).0, (in_turn parts n).1)
-program_at (Tree-F.Choice sides) n = (chosen (in_turn sides n).0, (in_turn sides n).1)
+program_at (Tree-F.Sequence parts) n = in_sequence (in_turn parts n)
+program_at (Tree-F.Choice sides) n = in_choice (in_turn sides n)
 program_at (Tree-F.Repeat part times) n = (repeated (part n).0 times, (part n).1)
 
 -- the program of a pattern, where so many sets stand before it, and the number of sets up to its end

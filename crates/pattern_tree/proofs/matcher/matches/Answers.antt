@@ -6,6 +6,6 @@ use Rattle.pattern_tree.proofs.matcher.matches.Goals as goal
 
 pub returns : goal.returns
 returns c =
-    told c.args.tree.now (chars c.args.text.now) c.in_ok-part.part _ (values c.push_sets.new.sets.items) c.runs_to_end.result c.in_ok-part.ensures
-    (c.in_ok-push_sets.ensures ∙ ap (λ l. values l ++ sets_of c.args.tree.now) c.new-sets.ensures.items)
+    told c.args.tree.now (chars c.args.text.now) c.in_ok-part.part _ (values c.as_slice.result.now) c.runs_to_end.result c.in_ok-part.ensures
+    (ap values c.as_slice.ensures.value ∙ c.in_ok-push_sets.ensures ∙ ap (λ l. values l ++ sets_of c.args.tree.now) c.new-sets.ensures.items)
     c.runs_to_end.ensures

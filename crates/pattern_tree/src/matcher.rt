@@ -48,8 +48,8 @@ struct Room {
 ///   text, else 4; for `k = 0` it has none;
 /// - a repeat up to `m` is `m` copies of its part, with 4 further steps for each copy beyond the least
 ///   number, none where the part matches the empty text;
-/// - a repeat without end adds 2 to one copy for each of the least number, at least one; none where that
-///   is one copy of a part that is such a repeat.
+/// - a repeat without end is one copy of its part for each of the least number, at least one, and 2
+///   steps, none where the part is such a repeat itself.
 ///
 /// So of the nodes that add steps and no weight at most three add any between two nodes that add weight,
 /// 8 steps in all, as in `((a+)?)*`: then the part matches the empty text and is a repeat without end.

@@ -1,5 +1,5 @@
 use ifc_base::Refusal;
-use std::alloc::Global;
+use std::alloc::{AllocError, Global};
 use std::process::Abort;
 use std::test::Fail;
 use xsd_pattern::{Pattern, PatternCause};
@@ -46,7 +46,7 @@ fn pattern_cases(rt: HostRuntime) {
     }
 }
 
-const YES: [(&str, &str); 48] = [
+const YES: [(&str, &str); 56] = [
     ("a|b", "b"),
     ("a|", ""),
     ("(|a)b", "b"),
@@ -64,6 +64,14 @@ const YES: [(&str, &str); 48] = [
     ("(ab){2}", "abab"),
     ("(a|b*){3}", "abb"),
     ("()*", ""),
+    ("((a+)*)+", ""),
+    ("((a+)*)+", "aaa"),
+    ("((a+)+)+", "aa"),
+    ("((a+)?)*", ""),
+    ("((a|)|)", ""),
+    ("((a|)|)", "a"),
+    ("((a|)*|b)", "b"),
+    ("(()|(a*)+)+", "aa"),
     ("^a$", "^a$"),
     ("a-b", "a-b"),
     (".", "x"),
@@ -97,7 +105,7 @@ const YES: [(&str, &str); 48] = [
     ("[^\u{e9}]", "\u{1F600}"),
 ];
 
-const NOT: [(&str, &str); 36] = [
+const NOT: [(&str, &str); 41] = [
     ("a|b", "ab"),
     ("a|b", ""),
     ("(|a)b", "aab"),
@@ -108,6 +116,11 @@ const NOT: [(&str, &str); 36] = [
     ("a{2}", "aaa"),
     ("a{2,}", "a"),
     ("a{2,3}", "aaaa"),
+    ("((a+)+)+", ""),
+    ("((a+)+){2}", "a"),
+    ("((a|)|)", "aa"),
+    ("((a*)+)*", "ab"),
+    ("(()|(a*)+)+", "b"),
     ("(ab){2}", "abba"),
     ("^a$", "a"),
     ("a", "xa"),
@@ -181,6 +194,36 @@ fn heavy_patterns_end(rt: HostRuntime) -> Result<(), Fail> {
     }
     for (pattern, wanted) in HEAVY {
         matches(&rt, rt.alloc(), pattern, text.as_str(), wanted);
+    }
+    Ok(())
+}
+
+/// What ends each of 30 groups round one character, all within repeats of weight 100,000.
+const ENDS: [(&str, bool); 4] = [(")*", true), ("|)", true), (")?", true), (")+", false)];
+
+/// The character within 30 groups of this end, 100,000 times.
+fn nested(alloc: Global, end: &str) -> Result<String, AllocError> {
+    let mut all = String::new(alloc);
+    for _ in 0..32 {
+        all.push('(')?;
+    }
+    all.push('a')?;
+    for _ in 0..30 {
+        all.push_str(end)?;
+    }
+    all.push_str("){1000}){100}")?;
+    Ok(all)
+}
+
+#[test]
+fn deep_patterns_end(rt: HostRuntime) -> Result<(), Fail> {
+    let mut text = String::new(rt.alloc());
+    for _ in 0..1_000 {
+        text.push('a')?;
+    }
+    for (end, wanted) in ENDS {
+        let pattern = nested(rt.alloc(), end)?;
+        matches(&rt, rt.alloc(), pattern.as_str(), text.as_str(), wanted);
     }
     Ok(())
 }

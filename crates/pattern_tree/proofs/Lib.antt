@@ -3,6 +3,7 @@ pub mod CodeLemmas
 pub mod Expressions
 pub mod Finals
 pub mod Joins
+pub mod Loops
 pub mod Making
 pub mod Outcomes
 pub mod Powers

@@ -4,7 +4,7 @@ use Rattle.std.proofs.lemmas.List.{append-nil}
 use Rattle.pattern_tree.specs.Matching.{Text, Permits, Matches, one, sequence, choice, repeat, InTurn, no_part, next_part, OfASide, first_side, later_side, Joined, no_text, next_text}
 use Rattle.pattern_tree.specs.Trees.{Level, fold_tree, is_of, sets_of, sets_at, one_after_another, hits_in}
 use Rattle.pattern_tree.specs.Machine.{is_matched}
-use Rattle.pattern_tree.specs.Programs.{single, nothing, beside, joined, chosen, alternated, all_gathered, gathered, no_sides, repeated, program, program_at, programs}
+use Rattle.pattern_tree.specs.Programs.{single, nothing, beside, joined, chosen, all_gathered, gathered, no_sides, repeated, program, program_at, programs}
 use Rattle.pattern_tree.specs.declared.program.Part.{Part}
 use Rattle.pattern_tree.specs.declared.program.Sides.{Sides}
 use Rattle.pattern_tree.specs.declared.tree.Set.{Set}
@@ -156,26 +156,12 @@ gathered_from hit (p ∷ ps) (t ∷ ts) sides P g all =
     ])
     (gathered_from hit ps ts (gathered sides p) (λ s. P s ⊎ Matches t s) (gathered_so hit sides p P (Matches t) g all.0) all.1)
 
-several_so : (hit : Hits) (ps : List Part) (ts : List Tree) → AllSpell hit ps ts → Spells hit (alternated (all_gathered ps)) (Matches (pattern.Choice ts))
-several_so hit ps ts all =
-    changed hit (alternated (all_gathered ps)) (λ s. ⊥ ⊎ OfASide ts s) (Matches (pattern.Choice ts))
+choice_so : (hit : Hits) (ps : List Part) (ts : List Tree) → AllSpell hit ps ts → Spells hit (chosen ps) (Matches (pattern.Choice ts))
+choice_so hit ps ts all =
+    changed hit (chosen ps) (λ s. ⊥ ⊎ OfASide ts s) (Matches (pattern.Choice ts))
     (λ s t. elim t [ inl a ↦ absurd a | inr b ↦ choice ts s b ])
     (λ s t. inr (of_choice ts s t))
     (alternated_so hit (all_gathered ps) (λ s. ⊥ ⊎ OfASide ts s) (gathered_from hit ps ts no_sides (λ s. ⊥) (no_sides_so hit) all))
-
-only_side : (t : Tree) (s : Text) → OfASide (t ∷ []) s → Matches t s
-only_side t s h = elim (of_a_side t [] s h) [ inl a ↦ a | inr b ↦ absurd (of_no_side s b) ]
-
-choice_so : (hit : Hits) (ps : List Part) (ts : List Tree) → AllSpell hit ps ts → Spells hit (chosen ps) (Matches (pattern.Choice ts))
-choice_so hit [] ts all = several_so hit [] ts all
-choice_so hit (p ∷ q ∷ ps) ts all = several_so hit (p ∷ q ∷ ps) ts all
-choice_so hit (p ∷ []) [] all = absurd all
-choice_so hit (p ∷ []) (t ∷ u ∷ ts) all = absurd all.1
-choice_so hit (p ∷ []) (t ∷ []) all =
-    changed hit p (Matches t) (Matches (pattern.Choice (t ∷ [])))
-    (λ s x. choice (t ∷ []) s (first_side t [] s x))
-    (λ s x. only_side t s (of_choice (t ∷ []) s x))
-    all.0
 
 repeat_so : (hit : Hits) (p : Part) (t : Tree) (times : Times) → Spells hit p (Matches t) → Spells hit (repeated p times) (Matches (pattern.Repeat t times))
 repeat_so hit p t times h =

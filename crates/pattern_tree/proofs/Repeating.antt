@@ -12,7 +12,9 @@ use Rattle.pattern_tree.proofs.Expressions.{never, Split, Power, Powers, Hits}
 use Rattle.pattern_tree.proofs.Powers.{any_number}
 use Rattle.pattern_tree.proofs.Joins.{Maybe, power_join, power_split, power_nil, only_nil, maybe_fewer, fewer_maybe}
 use Rattle.pattern_tree.proofs.Shifts.{empty_to_takes}
-use Rattle.pattern_tree.proofs.Spelling.{Spells, changed, beside_so, powered, powered_so, optional_so, optional_empty, endless_so, none_or, idle}
+use Rattle.pattern_tree.proofs.Spelling.{Spells, changed, beside_so, powered, powered_so, optional_so, optional_empty, none_or, idle}
+use Rattle.pattern_tree.proofs.Loops.{endless_so}
+use Rattle.pattern_tree.proofs.Booleans.{and_true}
 
 -- the join of so many texts, from the least number to the greatest, if there is one
 pub record Counted (P : Text → Type 0) (least : ℕ) (most : Option ℕ) (s : Text) : Type 0 where
@@ -30,10 +32,6 @@ and_none_or false (suc k) = refl
 none_or_true : (k : ℕ) → none_or true k ≡ true
 none_or_true zero = refl
 none_or_true (suc k) = refl
-
-and_true : (b : Bool) → (b && true) ≡ b
-and_true true = refl
-and_true false = refl
 
 none_or_is : (b : Bool) (k : ℕ) → none_or b k ≡ (b || (k == 0))
 none_or_is true zero = refl

@@ -1,11 +1,12 @@
 -- Which texts the program of a part matches, by an expression of which it is the program.
-use Rattle.std.proofs.Common.{◌≡◌, ◌+◌, ℕ, zero, suc, Bool, true, false, ◌&&◌, ◌||◌, List, [], ◌∷◌, ◌++◌, inl, inr, length, refl, sym, ap, ◌∙◌, subst, append_assoc, if◌then◌else◌}
+use Rattle.std.proofs.Common.{◌≡◌, ◌-◌, ℕ, zero, suc, Bool, true, false, ◌&&◌, ◌||◌, List, [], ◌∷◌, ◌++◌, inl, inr, length, take, refl, sym, ap, ◌∙◌, subst, append_assoc, length-append, arith, if◌then◌else◌}
+use Rattle.std.proofs.Math.Seq.{take-append_seam}
 use Rattle.pattern_tree.specs.Matching.{Text}
 use Rattle.pattern_tree.specs.declared.program.Op.{Op}
 use Rattle.pattern_tree.specs.declared.program.Op.TheVariants as op
 use Rattle.pattern_tree.specs.declared.program.Part.{Part}
-use Rattle.pattern_tree.specs.Programs.{single, nothing, beside, power, optional, endless}
-use Rattle.pattern_tree.proofs.Expressions.{Expr, one, blank, both, never, either, loop, Split, Power, Powers, Hits, Hit, Takes, takes_empty, Fine}
+use Rattle.pattern_tree.specs.Programs.{single, nothing, beside, power, optional, but_last}
+use Rattle.pattern_tree.proofs.Expressions.{Expr, one, blank, both, never, either, loop, Split, Power, Hits, Hit, Takes, takes_empty, Fine}
 use Rattle.pattern_tree.proofs.Joins.{Maybe, split_map, power_map}
 use Rattle.pattern_tree.proofs.Shifts.{empty_to_takes}
 use Rattle.pattern_tree.proofs.Runs.{code}
@@ -134,20 +135,6 @@ optional_yes p false e = refl
 pub optional_empty : (p : Part) → (optional p).empty ≡ true
 optional_empty p = optional_yes p p.empty refl
 
--- ---- again and again
-
-pub endless_so : (hit : Hits) (p : Part) (b : Bool) (P : Text → Type 0) → (p.empty ≡ true → b ≡ true) → Spells hit p P → Spells hit (endless p b) (Powers b P)
-endless_so hit p b P less h = record {
-  expr = loop b h.expr;
-  is = record {
-    ops = ap (λ l. op.Enter (length l + 1) ∷ l ++ op.Leave b ∷ []) h.is.ops;
-    empty = refl;
-    fine = (λ e. less (h.is.empty ∙ e), h.is.fine);
-  };
-  sound = λ s t. record { number = t.number; enough = t.enough; texts = power_map (Takes hit h.expr) P h.sound t.number s t.texts };
-  complete = λ s t. record { number = t.number; enough = t.enough; texts = power_map P (Takes hit h.expr) h.complete t.number s t.texts };
-}
-
 -- ---- a part without steps matches the empty text alone
 
 pub record Idle (hit : Hits) (e : Expr) : Type 0 where
@@ -172,3 +159,10 @@ idle hit (both p q) e =
 idle hit never e = absurd (cc)
 idle hit (either p q) e = absurd (cc)
 idle hit (loop b p) e = absurd (cc)
+
+-- ---- all steps but the last
+
+pub but_last_of : (ops : List Op) (last : Op) → but_last (ops ++ last ∷ []) ≡ ops
+but_last_of ops last =
+    let number : length (ops ++ last ∷ []) - 1 ≡ length ops = omega (arith, length-append ops (last ∷ [])) in
+    ap (λ n. take n (ops ++ last ∷ [])) number ∙ take-append_seam ops (last ∷ [])

@@ -25,10 +25,10 @@ ended sets part ops r xs s e f g =
     ∙ ap (λ x. is_matched sets part x) (sym (map_same xs) ∙ g)
 
 -- what the program answers is what the pattern matches
-pub told : (tree : Tree) (s : Text) (part : Part) (n : ℕ) (r : Result Bool Memory) → program tree 0 ≡ (let p : Part × ℕ = (part, n) in p) → IfOk r (λ a. a ≡ is_matched (sets_of tree) part s)
-    → IfOk r (λ a. IsTrue a ↔ Matches tree s)
-told tree s part n (Ok a) e f =
+pub told : (tree : Tree) (s : Text) (part : Part) (n : ℕ) (sets : List Set) (r : Result Bool Memory) → program tree 0 ≡ (let p : Part × ℕ = (part, n) in p) → sets ≡ sets_of tree
+    → IfOk r (λ a. a ≡ is_matched sets part s) → IfOk r (λ a. IsTrue a ↔ Matches tree s)
+told tree s part n sets (Ok a) e g f =
     let law = tree_law tree s in
-    let same : a ≡ is_matched (sets_of tree) (program tree 0).0 s = f ∙ ap (λ p. is_matched (sets_of tree) p.0 s) (sym e) in
+    let same : a ≡ is_matched (sets_of tree) (program tree 0).0 s = f ∙ ap (λ l. is_matched l part s) g ∙ ap (λ p. is_matched (sets_of tree) p.0 s) (sym e) in
     (λ h. law.0 (sym same ∙ h), λ m. same ∙ law.1 m)
-told tree s part n (Err refused) e f = f
+told tree s part n sets (Err refused) e g f = f

@@ -1,7 +1,7 @@
 -- The program of a pattern: its single-character parts in order, each as often as the repeats around it
 -- say, and the steps that lead the ways through it.
 use Rattle.std.specs.Prelude.{ℕ, zero, suc, ◌+◌, ◌-◌, ◌==◌, nat_lt, Option, Some, None, Bool, true, false, ◌&&◌, ◌||◌}
-use Rattle.std.specs.Prelude.{List, [], ◌∷◌, ◌++◌, length, map, fold, if◌then◌else◌}
+use Rattle.std.specs.Prelude.{List, [], ◌∷◌, ◌++◌, length, map, fold, take, if◌then◌else◌}
 use Rattle.pattern_tree.specs.declared.tree.Times.{Times}
 use Rattle.pattern_tree.specs.declared.tree.Tree.{Tree}
 use Rattle.pattern_tree.specs.declared.tree.Tree.TheOpen.{Tree-F}
@@ -31,11 +31,16 @@ joined parts = fold beside nothing parts
 abbrev pub gathered : Sides → Part → Sides
 gathered sides side =
     if length side.ops == 0 then record sides { blank = true }
-    else record { ops = sides.ops ++ side.ops ++ op.Next ∷ []; empty = sides.empty || side.empty; blank = sides.blank }
+    else record {
+      ops = sides.ops ++ side.ops ++ op.Next ∷ [];
+      empty = sides.empty || side.empty;
+      blank = sides.blank;
+      alone = length sides.ops == 0;
+    }
 
 -- before the first side
 abbrev pub no_sides : Sides
-no_sides = record { ops = []; empty = false; blank = false }
+no_sides = record { ops = []; empty = false; blank = false; alone = false }
 
 -- all sides
 abbrev pub all_gathered : List Part → Sides
@@ -48,13 +53,29 @@ forked sides = record {
   empty = sides.empty || sides.blank;
 }
 
--- ditto, but no steps where no side has any
-abbrev pub alternated : Sides → Part
-alternated sides = if sides.blank && length sides.ops == 0 then nothing else forked sides
+-- all steps but the last
+abbrev pub but_last : List Op → List Op
+but_last ops = take (length ops - 1) ops
 
--- one of the sides: the side itself where there is one alone
+-- the part, or the empty text
+abbrev pub optional : Part → Part
+optional part =
+    if part.empty then part else record { ops = op.Fork ∷ part.ops ++ op.Next ∷ op.Next ∷ op.Join ∷ []; empty = true }
+
+-- the side of these steps alone, and the empty text where a side without steps stands beside it
+abbrev pub only : Sides → Part
+only sides =
+    (let side : Part = record { ops = but_last sides.ops; empty = sides.empty } in if sides.blank then optional side else side)
+
+-- one of the sides: no steps where no side has any, and no fork where one side alone has some
+abbrev pub alternated : Sides → Part
+alternated sides =
+    if sides.alone then only sides
+    else if sides.blank && length sides.ops == 0 then nothing
+    else forked sides
+
+-- one of the parts
 abbrev pub chosen : List Part → Part
-chosen (only ∷ []) = only
 chosen parts = alternated (all_gathered parts)
 
 -- so many copies
@@ -62,14 +83,24 @@ abbrev pub power : ℕ → List Op → List Op
 power zero ops = []
 power (suc n) ops = ops ++ power n ops
 
--- the part, or the empty text
-abbrev pub optional : Part → Part
-optional part =
-    if part.empty then part else record { ops = op.Fork ∷ part.ops ++ op.Next ∷ op.Next ∷ op.Join ∷ []; empty = true }
+-- the step begins a repeat without end that ends so many steps further on
+abbrev pub spans : Op → ℕ → Bool
+spans (op.Enter far) n = far == n
+spans _ n = false
 
--- the part again and again
+-- all steps are one repeat without end
+abbrev pub is_loop : List Op → Bool
+is_loop [] = false
+is_loop (first ∷ ops) = spans first (length ops)
+
+-- the part again and again; a part that is such a repeat itself only ends otherwise
 abbrev pub endless : Part → Bool → Part
-endless part empty = record { ops = op.Enter (length part.ops + 1) ∷ part.ops ++ op.Leave empty ∷ []; empty = empty }
+endless part empty = record {
+  ops =
+      if is_loop part.ops then but_last part.ops ++ op.Leave empty ∷ []
+      else op.Enter (length part.ops + 1) ∷ part.ops ++ op.Leave empty ∷ [];
+  empty = empty;
+}
 
 -- so many copies, and up to so many further ones
 abbrev pub up_to : Part → ℕ → ℕ → Part
@@ -95,11 +126,18 @@ abbrev pub in_turn : List (ℕ → Part × ℕ) → ℕ → List Part × ℕ
 in_turn [] n = ([], n)
 in_turn (program ∷ programs) n = (let p = program n in let rest = in_turn programs p.1 in (p.0 ∷ rest.0, rest.1))
 
+-- the parts one behind the other, and one of them, with the number of sets up to their end
+abbrev pub in_sequence : List Part × ℕ → Part × ℕ
+in_sequence parts = (joined parts.0, parts.1)
+
+abbrev pub in_choice : List Part × ℕ → Part × ℕ
+in_choice parts = (chosen parts.0, parts.1)
+
 -- the program at one level
 abbrev pub program_at : Level (ℕ → Part × ℕ) → ℕ → Part × ℕ
 program_at (Tree-F.Set set) n = (single n, n + 1)
-program_at (Tree-F.Sequence parts) n = (joined (in_turn parts n).0, (in_turn parts n).1)
-program_at (Tree-F.Choice sides) n = (chosen (in_turn sides n).0, (in_turn sides n).1)
+program_at (Tree-F.Sequence parts) n = in_sequence (in_turn parts n)
+program_at (Tree-F.Choice sides) n = in_choice (in_turn sides n)
 program_at (Tree-F.Repeat part times) n = (repeated (part n).0 times, (part n).1)
 
 -- the program of a pattern, where so many sets stand before it, and the number of sets up to its end

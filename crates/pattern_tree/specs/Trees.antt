@@ -2,6 +2,7 @@
 use Rattle.std.specs.Prelude.{ℕ, ◌*◌, max, map, unwrap_or, Bool, not, ◌&&◌, ◌||◌, ◌==◌, nat_le, if◌then◌else◌}
 use Rattle.std.specs.Prelude.{List, [], ◌∷◌, ◌++◌, sum}
 use Rattle.std.specs.List.{list_any}
+use Rattle.std.specs.Borrow.{Bor}
 use Rattle.pattern_tree.specs.declared.tree.Class.{Class}
 use Rattle.pattern_tree.specs.declared.tree.Class.TheVariants as class
 use Rattle.pattern_tree.specs.declared.tree.Part.{Part}
@@ -88,6 +89,10 @@ sets_at (Tree-F.Repeat part times) = part
 -- the sets of a pattern's single-character parts, from left to right
 abbrev pub sets_of : Tree → List Set
 sets_of = fold_tree sets_at
+
+-- the sets that are referred to
+abbrev pub values : List (Bor Set) → List Set
+values sets = map (λ set. set.now) sets
 
 -- what each of the sets says of the character
 abbrev pub hits_in : List Set → ℕ → List Bool

@@ -1,12 +1,12 @@
 ghost use Rattle.std.specs.Prelude.{◌≡◌, ◌↔◌, IfOk, OnOk, IsTrue, chars, length, vec_len};
 ghost use Rattle.pattern_tree.specs.Matching.{Matches};
-ghost use Rattle.pattern_tree.specs.Trees.{sets_of, hits_in};
+ghost use Rattle.pattern_tree.specs.Trees.{values, hits_in};
 ghost use Rattle.pattern_tree.specs.Machine.{reached_of, taken, begun, is_matched};
 
 use crate::machine::{Kept, pass};
 use crate::program::{Op, Part, compile};
-use crate::set::push_hits;
-use crate::tree::Tree;
+use crate::set::{push_hits, push_sets};
+use crate::tree::{Set, Tree};
 use ifc_base::Memory;
 use std::alloc::Global;
 
@@ -37,23 +37,45 @@ struct Room {
 /// say, has a mark that tells whether the text so far can end with it, and a character makes all new
 /// marks of the old ones in one pass. All ways are followed at once and none is gone back, counted
 /// repeats are plain copies, and no automaton is built, so neither the text nor the form of the
-/// pattern decides about the time. For a tree of weight `w` that is `d` deep and has `p` nodes and parts
-/// of sets it takes `O(d d w + p)` time to begin with and `O(d w + p)` for each character of the text: a
-/// pass has one step for each mark and at most four further ones for each alternation and each repeat
-/// around it, and each set is asked once for a character. Memory is `O(d w + p)`, whatever the text. The
-/// recursion is as deep as the tree. A part with no set in it takes no steps, unless an alternation
-/// without sides is within.
+/// pattern decides about the time.
+///
+/// For a tree of weight `w` a pass makes at most `17 w - 8` steps, none where `w` is 0, however deep the
+/// tree is; each step's work is constant. Node by node:
+///
+/// - a single-character part is one step; a sequence adds none to those of its parts;
+/// - an alternation of `k` sides that have steps adds `k + 2`, for `k` of at least 2, and one more where
+///   other sides have none. For `k = 1` it adds none where that side stands alone or matches the empty
+///   text, else 4; for `k = 0` it has none;
+/// - a repeat up to `m` is `m` copies of its part, with 4 further steps for each copy beyond the least
+///   number, none where the part matches the empty text;
+/// - a repeat without end is one copy of its part for each of the least number, at least one, and 2
+///   steps, none where the part is such a repeat itself.
+///
+/// So of the nodes that add steps and no weight at most three add any between two nodes that add weight,
+/// 8 steps in all, as in `((a+)?)*`: then the part matches the empty text and is a repeat without end.
+/// Count for a part the steps that such nodes can still add: 8, 6 where it is a repeat without end, 2
+/// where it matches the empty text, 0 where both; its steps and these are at most `17 w - 8`, by
+/// induction. A tree in which an alternation has no sides, or a repeat permits no number, is apart: such a
+/// node is 2 steps and may weigh nothing.
+///
+/// A character is also held against each set once, in `O(r)` for the `r` parts of all sets; there are at
+/// most `w` sets. So it takes `O(w + r)` time for each character of the text, with no recursion. Before the
+/// first one the program is made, in `O(d w + p)` for a tree of depth `d` with `p` nodes, by a recursion as
+/// deep as the tree: steps are moved once where a part stands behind or beside others and where a fork or
+/// a repeat begins, and are handed on where a part stands alone. Memory is `O(w)`, whatever the text.
 pub fn matches(alloc: Global, tree: &Tree, text: &str) -> Result<bool, Memory>
     ensures { IfOk result (λ answer. IsTrue answer ↔ Matches tree.now (chars text.now)) }
 {
-    let mut sets = 0;
-    let part = compile(alloc, tree, &mut sets)?;
-    runs_to_end(alloc, tree, &part, text)
+    let mut number = 0;
+    let part = compile(alloc, tree, &mut number)?;
+    let mut sets = Vec::new(alloc);
+    push_sets(tree, &mut sets)?;
+    runs_to_end(alloc, sets.as_slice(), &part, text)
 }
 
-/// Whether the program of the pattern matches the text.
-fn runs_to_end(alloc: Global, tree: &Tree, part: &Part, text: &str) -> Result<bool, Memory>
-    ensures { IfOk result (λ answer. answer ≡ is_matched (sets_of tree.now) part.now (chars text.now)) }
+/// Whether the program of a pattern with these sets matches the text.
+fn runs_to_end(alloc: Global, sets: &[&Set], part: &Part, text: &str) -> Result<bool, Memory>
+    ensures { IfOk result (λ answer. answer ≡ is_matched (values sets.now) part.now (chars text.now)) }
 {
     let ops = part.ops.as_slice();
     let mut progress = Progress {
@@ -66,14 +88,14 @@ fn runs_to_end(alloc: Global, tree: &Tree, part: &Part, text: &str) -> Result<bo
         kept: Vec::new(alloc),
     };
     for c in text.chars() {
-        take(tree, ops, &mut progress, &mut room, c)?;
+        take(sets, ops, &mut progress, &mut room, c)?;
     }
     Ok(progress.ends)
 }
 
 /// Takes one character.
 fn take(
-    tree: &Tree,
+    sets: &[&Set],
     ops: &[Op],
     progress: &mut Progress,
     room: &mut Room,
@@ -82,10 +104,10 @@ fn take(
     requires { vec_len progress.old.marks ≡ length ops.now }
     ensures size { vec_len progress.new.marks ≡ length ops.now }
     ensures reached { OnOk result
-        (reached_of progress.new ≡ taken (hits_in (sets_of tree.now)) ops.now (reached_of progress.old) c) }
+        (reached_of progress.new ≡ taken (hits_in (values sets.now)) ops.now (reached_of progress.old) c) }
 {
     room.hits.clear();
-    push_hits(tree, c, &mut room.hits)?;
+    push_hits(sets, c, &mut room.hits)?;
     let wire = pass(
         ops,
         room.hits.as_slice(),

@@ -1,7 +1,7 @@
 ghost use Rattle.std.specs.Prelude.{◌≡◌, map, ◌++◌, OnOk};
 ghost use Rattle.std.specs.List.{list_any};
 ghost use Rattle.pattern_tree.specs.Trees.{is_digit, is_word, is_space, is_of_class, is_in_part, is_of};
-ghost use Rattle.pattern_tree.specs.Trees.{sets_of, one_after_another, hits_in};
+ghost use Rattle.pattern_tree.specs.Trees.{values, sets_of, one_after_another, hits_in};
 
 use crate::tree::{Class, Part, Set, Tree};
 use ifc_base::Memory;
@@ -68,31 +68,40 @@ fn is_of(set: &Set, c: char) -> bool
     if set.negated { !found } else { found }
 }
 
-/// Appends, for each set of the pattern from left to right, whether it holds the character. `O(n)` in
-/// the size of the pattern; its recursion is as deep as the pattern.
-#[cycle(hits)]
-pub(crate) fn push_hits(tree: &Tree, c: char, hits: &mut Vec<bool>) -> Result<(), Memory>
-    ensures { OnOk result (hits.new.items ≡ hits.old.items ++ hits_in (sets_of tree.now) c) }
+/// Appends the sets of the pattern's single-character parts, from left to right. `O(n)` in the number of
+/// nodes of the pattern; its recursion is as deep as the pattern.
+#[cycle(sets)]
+pub(crate) fn push_sets<'a>(tree: &'a Tree, sets: &mut Vec<&'a Set>) -> Result<(), Memory>
+    ensures { OnOk result (values sets.new.items ≡ values sets.old.items ++ sets_of tree.now) }
 {
     match tree {
         Tree::Set(set) => {
-            hits.push(is_of(set, c))?;
+            sets.push(set)?;
             Ok(())
         }
-        Tree::Sequence(parts) => push_all_hits(parts.as_slice(), c, hits),
-        Tree::Choice(sides) => push_all_hits(sides.as_slice(), c, hits),
-        Tree::Repeat(part, _) => push_hits(part.get(), c, hits),
+        Tree::Sequence(parts) => push_all_sets(parts.as_slice(), sets),
+        Tree::Choice(sides) => push_all_sets(sides.as_slice(), sets),
+        Tree::Repeat(part, _) => push_sets(part.get(), sets),
     }
 }
 
-/// Ditto for the sets of the patterns one after another.
-#[cycle(hits)]
-#[tactic(auto, using(crate::proofs::CodeLemmas::hits_more))]
-fn push_all_hits(trees: &[Tree], c: char, hits: &mut Vec<bool>) -> Result<(), Memory>
-    ensures { OnOk result (hits.new.items ≡ hits.old.items ++ hits_in (one_after_another (map sets_of trees.now)) c) }
+/// Ditto for the patterns one after another.
+#[cycle(sets)]
+fn push_all_sets<'a>(trees: &'a [Tree], sets: &mut Vec<&'a Set>) -> Result<(), Memory>
+    ensures { OnOk result (values sets.new.items ≡ values sets.old.items ++ one_after_another (map sets_of trees.now)) }
 {
     for tree in trees {
-        push_hits(tree, c, hits)?;
+        push_sets(tree, sets)?;
+    }
+    Ok(())
+}
+
+/// Appends, for each of the sets, whether it holds the character. `O(n)` in the number of their parts.
+pub(crate) fn push_hits(sets: &[&Set], c: char, hits: &mut Vec<bool>) -> Result<(), Memory>
+    ensures { OnOk result (hits.new.items ≡ hits.old.items ++ hits_in (values sets.now) c) }
+{
+    for set in sets {
+        hits.push(is_of(set, c))?;
     }
     Ok(())
 }

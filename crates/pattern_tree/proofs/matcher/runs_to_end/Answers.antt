@@ -1,6 +1,6 @@
 use Rattle.std.proofs.lemmas.Iterator.{YieldsList-from_chars}
 use Rattle.std.proofs.lemmas.Iterator.Consumers.{YieldsList-end}
-use Rattle.pattern_tree.specs.Trees.{sets_of}
+use Rattle.pattern_tree.specs.Trees.{values}
 use Rattle.pattern_tree.specs.Machine.{reached_of}
 use Rattle.pattern_tree.proofs.Telling.{ended}
 use Rattle.pattern_tree.proofs.matcher.runs_to_end.Goals as goal
@@ -8,4 +8,4 @@ use Rattle.pattern_tree.proofs.matcher.runs_to_end.Goals as goal
 pub returns : goal.returns
 returns c =
     let all = YieldsList-end (YieldsList-from_chars c.args.text.now c.utf8.text cc) c.loop-c.yielded _ c.loop-c.yielded_by _ _ c.in-None.is c.next.ensures.steps in
-    ended (sets_of c.args.tree.now) c.args.part.now c.as_slice-ops.result.now (reached_of c.loop-c.progress) c.loop-c.yielded _ c.as_slice-ops.ensures c.loop-c.invariant.reached all.0
+    ended (values c.args.sets.now) c.args.part.now c.as_slice-ops.result.now (reached_of c.loop-c.progress) c.loop-c.yielded _ c.as_slice-ops.ensures c.loop-c.invariant.reached all.0

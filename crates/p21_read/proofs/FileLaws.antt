@@ -1,7 +1,6 @@
 -- Whole files: what is read is spelled so, and what is spelled so is read.
-use Rattle.std.proofs.Common.{◌≡◌, ℕ, zero, suc, ◌+◌, ◌<◌, ◌≤◌, Bool, true, false, cond, eqb, List, [], ◌∷◌, ◌++◌, length, Option, Some, None, Result, Ok, Err, refl, sym, ap, ◌∙◌, subst, append_assoc, length-append, arith}
+use Rattle.std.proofs.Common.{◌≡◌, ℕ, ◌<◌, ◌≤◌, Bool, true, false, cond, eqb, List, [], ◌∷◌, ◌++◌, length, Result, Ok, Err, refl, sym, ap, ◌∙◌, subst, append_assoc, length-append, arith}
 use Rattle.std.specs.Prelude.{IfOk, ◌||◌, nat_le}
-use Rattle.std.specs.List.{list_any}
 use Rattle.std.proofs.lemmas.List.{append-nil}
 use Rattle.std.proofs.lemmas.List.Folds.{list_any-append}
 use Rattle.std.proofs.lemmas.Bool.Decides.{nat_tests}
@@ -10,7 +9,7 @@ use Rattle.ifc_base.specs.declared.value.Instance.{Instance}
 use Rattle.reading.specs.declared.fault.Fault.{Fault}
 use Rattle.reading.specs.Codes.{codes_of}
 use Rattle.reading.specs.Lines.{with_line, Answers}
-use Rattle.reading.specs.Reading.{Text, Refused, Read, ◌>>=◌, refuse, turns, all_turns}
+use Rattle.reading.specs.Reading.{Text, Refused, Shortens, refuse, turns, all_turns}
 use Rattle.reading.proofs.Lines.{with_line_ok}
 use Rattle.reading.proofs.Tools.{bound, passed, ok_is, each_sound, Run, all_run}
 use Rattle.p21_read.specs.declared.fault.P21Cause.{P21Cause}
@@ -27,10 +26,10 @@ use Rattle.p21_read.specs.Headers.{section_word, heading, header}
 use Rattle.p21_read.specs.Files.{has_id, placed, instance, data_word, data_by, data_turn, data_parameters, data_open_by, data_open, data_section, first_word, first_section, further_word, section_turn, sections, file_of, whole_file}
 use Rattle.p21_read.specs.Readings.{file_reading}
 use Rattle.p21_read.specs.TokenGrammar.{Next}
-use Rattle.p21_read.specs.Grammar.{Parameters, IsInstance}
+use Rattle.p21_read.specs.Grammar.{IsInstance}
 use Rattle.p21_read.specs.FileGrammar.{IsHeading, IsLine, Opens, Rows, IsSection, Sections, HaveDistinctIds, ReadsFile}
 use Rattle.p21_read.proofs.TokenLaws.{token_sound, token_complete, next_shorter, word_shorter}
-use Rattle.p21_read.proofs.InstanceLaws.{semicolon_complete, parameters_from, parameters_shorter, closed_complete, in_range_is, instance_sound, good_row, row_complete, instance_shorter}
+use Rattle.p21_read.proofs.InstanceLaws.{semicolon_complete, parameters_from, parameters_shorter, closed_complete, in_range_is, instance_sound, row_complete, instance_shorter}
 use Rattle.p21_read.proofs.HeaderLaws.{heading_sound, heading_complete, line_complete, line_from, line_shorter, header_sound, header_complete}
 
 -- ---- ids and their number
@@ -399,3 +398,30 @@ one_file_reading most bytes x y p q = ok_is {E = Fault P21Cause} x y (sym (file_
 pub file_found : (most : ℕ) (bytes : List ℕ) (r : Result P21File (Refusal (Fault P21Cause))) → Answers (λ x. x) r (file_reading most bytes) → IfOk r (λ x. ReadsFile most bytes x)
 file_found most bytes (Ok x) given = file_reading_sound most bytes x given
 file_found most bytes (Err e) given = tt
+
+-- ---- turns that go on leave less
+
+row_shorter : {most : ℕ} {s : Listed} {t : Text} {y : Had} → IsRow most s t y → length y.1 < length t
+row_shorter i = instance_shorter i.spelled
+
+pub rows_shorten : (most : ℕ) → Shortens (data_turn most)
+rows_shorten most s t r u e = row_shorter (turn_went most s t ((true, r), u) e)
+
+end_keeps : (most : ℕ) (s : Listed) (t : Text) (r : Listed) (u : Text) → data_turn most s t ≡ Ok ((false, r), u) → length u ≤ length t
+end_keeps most s t r u e = let w = turn_went most s t ((false, r), u) e in line_shorter w.0
+
+rows_keep : (most : ℕ) (s : Listed) (t : Text) (x : Had) → all_turns BadToken (data_turn most) s t ≡ Ok x → length x.1 ≤ length t
+rows_keep most s t x e =
+    each_sound BadToken (data_turn most) (λ s t r u. length u ≤ length t) (end_keeps most)
+    (λ s t r u q w went others. let first = rows_shorten most s t r u went in omega (arith, first, others)) (turns t) s t x.0 x.1 e
+
+section_keeps : (most : ℕ) (s : Listed) (t : Text) (x : Had) → data_section most s t ≡ Ok x → length x.1 ≤ length t
+unfolding data_section
+section_keeps most s t x e =
+    let b = bound {r = data_open t} e in
+    omega (arith, opens_shorter (data_open_sound t b.0 b.1), rows_keep most s b.0.1 x b.2)
+
+pub sections_shorten : (most : ℕ) → Shortens (section_turn most)
+sections_shorten most s t r u e =
+    let f = section_went most s t ((true, r), u) e in
+    omega (arith, word_shorter f.1.next, section_keeps most s f.0 (r, u) f.2)

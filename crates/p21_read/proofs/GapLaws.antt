@@ -1,14 +1,14 @@
 -- Blanks and comments: what is passed is what the grammar has, and no more.
-use Rattle.std.proofs.Common.{◌≡◌, ℕ, ◌<◌, ◌≤◌, Bool, true, false, cond, eqb, [], ◌∷◌, length, Ok, refl, sym, subst, ap, ◌∙◌, inl, inr, arith}
-use Rattle.std.specs.Prelude.{◌&&◌, ◌||◌}
+use Rattle.std.proofs.Common.{◌≡◌, ℕ, ◌<◌, ◌≤◌, Bool, true, false, eqb, [], ◌∷◌, length, Ok, refl, sym, subst, ap, inl, inr, arith}
+use Rattle.std.specs.Prelude.{◌||◌}
 use Rattle.std.proofs.lemmas.Bool.{eqb-true}
 use Rattle.std.proofs.lemmas.Bool.Decides.{nat_tests}
-use Rattle.reading.specs.Reading.{Text, Refused, ◌>>=◌, refuse, turns}
+use Rattle.reading.specs.Reading.{Text, Refused, Shortens, turns}
 use Rattle.reading.specs.Runs.{begins}
 use Rattle.reading.proofs.Tools.{bound, chosen, kept, ok_is, tested, each_sound, Run, all_run}
 use Rattle.p21_read.specs.declared.fault.P21Cause.{P21Cause}
 use Rattle.p21_read.specs.declared.fault.P21Cause.TheVariants.{BadToken}
-use Rattle.p21_read.specs.Gap.{is_blank, comment, after_slash, slash, gap_turn, gap}
+use Rattle.p21_read.specs.Gap.{is_blank, comment, slash, gap_turn, gap}
 use Rattle.p21_read.specs.TokenGrammar.{closes, Comment, is_gap, Gap}
 
 abbrev Done : Type 0
@@ -155,3 +155,19 @@ pub gap_shorter : {t u : Text} → Gap t u → length u ≤ length t
 gap_shorter (Gap.none t ends) = omega arith
 gap_shorter (Gap.blank c t u is more) = omega (arith, gap_shorter more)
 gap_shorter (Gap.comment t v u inside more) = omega (arith, comment_shorter inside, gap_shorter more)
+
+pub gap_shortens : Shortens gap_turn
+unfolding gap_turn
+gap_shortens s [] r u e = let wrong : false ≡ true = ap (λ (x : Turn). x.0.0) (ok_is {E = Refused P21Cause} ((false, tt), []) ((true, r), u) e) in absurd cc
+gap_shortens s (c ∷ t) r u e =
+    elim (tested (eqb c 47)) [
+      | inl is ↦
+          let b = bound {r = slash (c ∷ t)} (rw is at e) in
+          let p = slash_is c t b.0 is b.1 in
+          let inside = comment_shorter p.2 in
+          omega (arith, ap length p.1, inside, ap (λ (x : Turn). length x.1) (ok_is {E = Refused P21Cause} ((true, tt), b.0.1) ((true, r), u) b.2))
+      | inr other ↦ elim (chosen (is_blank c) (Ok ((true, tt), t)) (Ok ((false, tt), c ∷ t)) (Ok ((true, r), u)) (rw other at e)) [
+        | inl k ↦ omega (arith, ap (λ (x : Turn). length x.1) (ok_is {E = Refused P21Cause} ((true, tt), t) ((true, r), u) k.1))
+        | inr k ↦ let wrong : false ≡ true = ap (λ (x : Turn). x.0.0) (ok_is {E = Refused P21Cause} ((false, tt), c ∷ t) ((true, r), u) k.1) in absurd cc
+      ]
+    ]

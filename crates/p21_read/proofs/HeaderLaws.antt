@@ -1,10 +1,10 @@
 -- The header of a file: what is read is spelled so, and what is spelled so is read.
-use Rattle.std.proofs.Common.{◌≡◌, ℕ, ◌<◌, ◌≤◌, Bool, true, false, cond, List, [], ◌∷◌, length, Option, Some, None, Result, Ok, refl, sym, ap, ◌∙◌, subst, arith}
+use Rattle.std.proofs.Common.{◌≡◌, ℕ, ◌<◌, ◌≤◌, Bool, true, false, cond, List, length, Ok, refl, sym, ap, ◌∙◌, subst, arith}
 use Rattle.std.specs.Prelude.{codes}
 use Rattle.std.specs.Str.{bytes_eq}
 use Rattle.std.proofs.lemmas.Slice.Eq.{bytes_eq-Decides}
 use Rattle.ifc_base.specs.declared.value.Value.{Value}
-use Rattle.reading.specs.Reading.{Text, Refused, Read, ◌>>=◌, refuse, turns}
+use Rattle.reading.specs.Reading.{Text, Refused, Shortens, ◌>>=◌, refuse, turns}
 use Rattle.reading.proofs.Tools.{bound, kept, ok_is, each_sound, Run, all_run}
 use Rattle.p21_read.specs.declared.fault.P21Cause.{P21Cause}
 use Rattle.p21_read.specs.declared.fault.P21Cause.TheVariants.{BadToken}
@@ -253,3 +253,11 @@ unfolding header entities
 header_complete {u = u} h =
     rw (opened_complete h.opened, header_opened_complete h.header, named_complete h.file_description, named_complete h.file_name, named_complete h.file_schema, rest_complete h.further)
     (ap (λ (i : List ℕ). Ok (i, u)) h.kept)
+
+-- ---- turns that go on leave less
+
+further_shorter : {t u : Text} → IsFurther t u → length u < length t
+further_shorter i = omega (arith, word_shorter i.keyword, parameters_shorter i.values)
+
+pub further_shortens : Shortens further_turn
+further_shortens s t r u e = further_shorter (turn_went t ((true, r), u) e)

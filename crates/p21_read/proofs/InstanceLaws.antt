@@ -1,15 +1,15 @@
 -- Instances and parameters: what is read, with no number out of range, is spelled so, and what is spelled so is read.
-use Rattle.std.proofs.Common.{◌≡◌, ℕ, ◌≤◌, ◌<◌, Bool, true, false, List, [], ◌∷◌, length, Option, Some, None, Result, Ok, refl, sym, ap, ◌∙◌, subst, arith}
+use Rattle.std.proofs.Common.{◌≡◌, ℕ, ◌≤◌, ◌<◌, true, List, length, Option, Some, None, Ok, refl, ap, ◌∙◌, subst, arith}
 use Rattle.ifc_base.specs.declared.value.Value.{Value}
 use Rattle.ifc_base.specs.declared.value.Instance.{Instance}
-use Rattle.reading.specs.Reading.{Text, Refused, Read, ◌>>=◌, refuse}
+use Rattle.reading.specs.Reading.{Text, Refused}
 use Rattle.reading.proofs.Tools.{bound, kept, ok_is}
 use Rattle.p21_read.specs.declared.fault.P21Cause.{P21Cause}
 use Rattle.p21_read.specs.declared.fault.P21Cause.TheVariants.{BadToken, IdRange}
 use Rattle.p21_read.specs.declared.word.Word.{Word}
 use Rattle.p21_read.specs.declared.token.Token.{Token}
 use Rattle.p21_read.specs.declared.token.Token.TheVariants as k
-use Rattle.p21_read.specs.Tokens.{Lexed, token}
+use Rattle.p21_read.specs.Tokens.{token}
 use Rattle.p21_read.specs.Values.{Series, series, value, max_depth, is_id, in_range}
 use Rattle.p21_read.specs.Instances.{semicolon_by, semicolon, equals_by, equals, opening_by, opening, entity_by, entity, closed, Row, row_of, row, instance_from, instance_of}
 use Rattle.p21_read.specs.TokenGrammar.{Next}

@@ -11,3 +11,4 @@ pub mod InstanceLaws
 pub mod ReadLaws
 pub mod HeaderLaws
 pub mod FileLaws
+pub mod ValueTurns

@@ -1,5 +1,5 @@
 -- A value and an instance alone: what is read is spelled so, and what is spelled so is read.
-use Rattle.std.proofs.Common.{◌≡◌, ℕ, List, [], Option, Some, None, Result, Ok, Err, refl, sym, ap, ◌∙◌, subst}
+use Rattle.std.proofs.Common.{◌≡◌, ℕ, List, [], None, Result, Ok, Err, refl, sym, ap, ◌∙◌, subst}
 use Rattle.std.specs.Prelude.{IfOk}
 use Rattle.ifc_base.specs.declared.memory.Refusal.{Refusal}
 use Rattle.ifc_base.specs.declared.value.Value.{Value}
@@ -7,14 +7,14 @@ use Rattle.ifc_base.specs.declared.value.Instance.{Instance}
 use Rattle.reading.specs.declared.fault.Fault.{Fault}
 use Rattle.reading.specs.Codes.{codes_of}
 use Rattle.reading.specs.Lines.{with_line, Answers}
-use Rattle.reading.specs.Reading.{Text, Refused, ◌>>=◌}
+use Rattle.reading.specs.Reading.{Text}
 use Rattle.reading.proofs.Lines.{with_line_ok}
 use Rattle.reading.proofs.Tools.{bound, ok_is}
 use Rattle.p21_read.specs.declared.fault.P21Cause.{P21Cause}
 use Rattle.p21_read.specs.declared.token.Token.{Token}
 use Rattle.p21_read.specs.declared.token.Token.TheVariants as k
-use Rattle.p21_read.specs.Tokens.{Lexed, token}
-use Rattle.p21_read.specs.Values.{Found, value, max_depth, in_range, whole_end, whole_value}
+use Rattle.p21_read.specs.Tokens.{token}
+use Rattle.p21_read.specs.Values.{Found, value, max_depth, whole_end, whole_value}
 use Rattle.p21_read.specs.Instances.{Row, row_by, row, instance_of, alone, whole_instance}
 use Rattle.p21_read.specs.Readings.{value_reading, instance_reading}
 use Rattle.p21_read.specs.TokenGrammar.{IsToken, Next}
@@ -22,7 +22,7 @@ use Rattle.p21_read.specs.Grammar.{Spells, IsInstance, ReadsValue, ReadsInstance
 use Rattle.p21_read.proofs.TokenLaws.{token_sound, token_complete}
 use Rattle.p21_read.proofs.ValueLaws.{value_sound}
 use Rattle.p21_read.proofs.ValueComplete.{value_complete}
-use Rattle.p21_read.proofs.InstanceLaws.{in_range_is, instance_sound, good_row, row_complete}
+use Rattle.p21_read.proofs.InstanceLaws.{in_range_is, instance_sound, row_complete}
 
 end_is : {t u : Text} → Next t k.End u → Next t k.End []
 end_is (Next.next t s _ u passed IsToken.end) = Next.next t s k.End [] passed IsToken.end

@@ -1,6 +1,6 @@
 -- Runs of digits and of the letters of words.
 use Rattle.std.proofs.Common.{◌≡◌, ℕ, zero, suc, ◌+◌, ◌*◌, ◌-◌, ◌^◌, ◌<◌, ◌≤◌, min, Bool, true, false, List, [], ◌∷◌, ◌++◌, length, map, refl, sym, ap, ◌∙◌, subst, inl, inr, append_assoc, arith}
-use Rattle.std.specs.Prelude.{fold, not, ◌&&◌, ◌||◌, ◌==◌}
+use Rattle.std.specs.Prelude.{fold, not, ◌&&◌, ◌==◌}
 use Rattle.std.specs.List.{list_all}
 use Rattle.std.specs.Char.{is_ascii_digit, is_ascii_lowercase, to_ascii_uppercase}
 use Rattle.std.proofs.lemmas.List.{append-nil}

@@ -1,16 +1,16 @@
 -- Strings in quotes: what is read is spelled so, and what is spelled so is read.
-use Rattle.std.proofs.Common.{◌≡◌, ℕ, ◌+◌, ◌*◌, ◌<◌, ◌≤◌, Bool, true, false, cond, eqb, ltb, List, [], ◌∷◌, ◌++◌, length, Ok, refl, sym, ap, ◌∙◌, subst, inl, inr, ◌⊎◌, append_assoc, arith}
+use Rattle.std.proofs.Common.{◌≡◌, ℕ, ◌+◌, ◌*◌, ◌<◌, ◌≤◌, Bool, true, false, eqb, ltb, List, [], ◌∷◌, ◌++◌, length, Ok, refl, sym, ap, ◌∙◌, subst, inl, inr, ◌⊎◌, append_assoc, arith}
 use Rattle.std.specs.Prelude.{◌==◌}
 use Rattle.std.specs.Char.{is_ascii_hexdigit, is_ascii_alphabetic, digit_value}
 use Rattle.std.proofs.lemmas.Bool.{eqb-true, ltb-true, ltb-false, lt-ltb, le-ltb}
 use Rattle.std.proofs.lemmas.List.{append-nil}
 use Rattle.std.proofs.lemmas.Bool.Decides.{nat_tests}
 use Rattle.reading.specs.Codes.{is_mark}
-use Rattle.reading.specs.Reading.{Text, Refused, ◌>>=◌, refuse, turns, all_turns}
+use Rattle.reading.specs.Reading.{Text, Refused, Shortens, ◌>>=◌, turns}
 use Rattle.reading.specs.Runs.{begins}
 use Rattle.reading.proofs.Tools.{chosen, kept, passed, bound, ok_is, tested, each_sound, Run, all_run}
 use Rattle.p21_read.specs.declared.fault.P21Cause.{P21Cause}
-use Rattle.p21_read.specs.declared.fault.P21Cause.TheVariants.{BadText, BadDirective, OtherPage, BadToken}
+use Rattle.p21_read.specs.declared.fault.P21Cause.TheVariants.{BadText, BadDirective, BadToken}
 use Rattle.p21_read.specs.Quoted.{next, exactly, hex, byte, unit, long, is_scalar, is_high, is_low, joined, put, second_half, four, eight, group, groups_end, groups_turn, groups, coded, shifted, page, directive, quote, piece, text}
 use Rattle.p21_read.specs.StringGrammar.{code2, code4, code8, AreHex, Coded, MoreCoded, Piece, Quoted}
 
@@ -589,3 +589,19 @@ text_complete q h = all_run BadToken (piece q) (text_runs q [] h)
 pub quoted_shorter : {t : Text} {s : List ℕ} {u : Text} → Quoted t s u → length u < length t
 quoted_shorter (Quoted.ends t alone) = omega arith
 quoted_shorter (Quoted.more t cs u rest w first others) = omega (arith, piece_shorter first, quoted_shorter others)
+
+-- ---- turns that go on leave less
+
+pub groups_shorten : (is_long : Bool) (q : Text) → Shortens (groups_turn is_long q)
+groups_shorten is_long q s t r u e =
+    elim (groups_turn_is is_long q s t ((true, r), u) e) [
+      | inl h ↦ let wrong : false ≡ true = ap (λ (y : Bool × List ℕ). y.0) h.same in absurd cc
+      | inr h ↦ coded_shorter h.one.1
+    ]
+
+pub pieces_shorten : (q : Text) → Shortens (piece q)
+pieces_shorten q s t r u e =
+    elim (piece_sound q s t ((true, r), u) e) [
+      | inl h ↦ piece_shorter h.does.1
+      | inr h ↦ let wrong : false ≡ true = ap (λ (y : Bool × List ℕ). y.0) h.same in absurd cc
+    ]

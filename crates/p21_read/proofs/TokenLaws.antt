@@ -1,5 +1,5 @@
 -- Tokens: what is read is spelled so, and what is spelled so is read.
-use Rattle.std.proofs.Common.{◌≡◌, ℕ, ◌<◌, ◌≤◌, min, Bool, true, false, cond, eqb, ltb, List, [], ◌∷◌, ◌++◌, Option, Some, None, length, map, Ok, refl, sym, ap, ◌∙◌, subst, inl, inr, ◌⊎◌, arith}
+use Rattle.std.proofs.Common.{◌≡◌, ℕ, ◌<◌, ◌≤◌, min, Bool, true, false, eqb, ltb, List, [], ◌∷◌, Option, Some, None, length, map, Ok, refl, sym, ap, ◌∙◌, subst, inl, inr, arith}
 use Rattle.std.specs.Prelude.{◌||◌, ◌&&◌, not, fold}
 use Rattle.std.specs.List.{list_all}
 use Rattle.std.specs.Char.{is_ascii_digit, is_ascii_hexdigit, to_ascii_uppercase}
@@ -8,12 +8,12 @@ use Rattle.std.proofs.lemmas.Bool.Decides.{nat_tests}
 use Rattle.ifc_base.specs.declared.value.Decimal.{Decimal}
 use Rattle.decimal_fix.specs.Reading.{reading}
 use Rattle.reading.specs.Codes.{is_mark}
-use Rattle.reading.specs.Reading.{Text, Read, Refused, ◌>>=◌, refuse}
+use Rattle.reading.specs.Reading.{Text, Read, Refused, ◌>>=◌}
 use Rattle.reading.specs.Runs.{begins, IsRun, run}
 use Rattle.reading.proofs.RunLaws.{run_is, run_only, run_shorter}
-use Rattle.reading.proofs.Tools.{chosen, kept, passed, bound, ok_is, tested}
+use Rattle.reading.proofs.Tools.{kept, passed, bound, ok_is, tested}
 use Rattle.p21_read.specs.declared.fault.P21Cause.{P21Cause}
-use Rattle.p21_read.specs.declared.fault.P21Cause.TheVariants.{BadToken, Unclosed}
+use Rattle.p21_read.specs.declared.fault.P21Cause.TheVariants.{BadToken}
 use Rattle.p21_read.specs.declared.number.Digits.{Digits}
 use Rattle.p21_read.specs.declared.number.Number.{Number}
 use Rattle.p21_read.specs.declared.number.Number.TheVariants.{Int, Real}

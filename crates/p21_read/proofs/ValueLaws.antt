@@ -4,7 +4,7 @@ use Rattle.std.proofs.lemmas.List.{append-nil}
 use Rattle.ifc_base.specs.declared.value.Value.{Value}
 use Rattle.ifc_base.specs.declared.value.ValueNode.{ValueNode}
 use Rattle.ifc_base.specs.declared.value.ValueNode.TheVariants as v
-use Rattle.reading.specs.Reading.{Text, Refused, ◌>>=◌, turns, all_turns, refuse}
+use Rattle.reading.specs.Reading.{Text, Refused, ◌>>=◌, turns}
 use Rattle.reading.proofs.Tools.{bound, chosen, kept, ok_is, each_sound}
 use Rattle.p21_read.specs.declared.fault.P21Cause.{P21Cause}
 use Rattle.p21_read.specs.declared.fault.P21Cause.TheVariants.{BadToken}

@@ -1,6 +1,6 @@
 -- What a token is, by cases (ISO 10303-21: token separators, special tokens, keywords, simple data type encodings).
 -- In each relation the last text is what follows what was read.
-use Rattle.std.specs.Prelude.{◌≡◌, ℕ, ◌+◌, ◌*◌, ◌-◌, ◌<◌, ◌≤◌, min, map, fold, not, Bool, true, false, ◌&&◌, ◌||◌, List, [], ◌∷◌, Option, Some, length, ◌==◌}
+use Rattle.std.specs.Prelude.{◌≡◌, ℕ, ◌+◌, ◌*◌, ◌-◌, ◌<◌, ◌≤◌, min, map, fold, not, Bool, true, false, ◌&&◌, ◌||◌, List, [], ◌∷◌, Some, length, ◌==◌}
 use Rattle.std.specs.List.{list_all}
 use Rattle.std.specs.Char.{is_ascii_digit, is_ascii_hexdigit, is_ascii_lowercase, to_ascii_uppercase}
 use Rattle.reading.specs.Reading.{Text}

@@ -1,4 +1,4 @@
-use Rattle.std.proofs.Common.{◌≡◌, Result, Ok, sym, subst}
+use Rattle.std.proofs.Common.{Result, sym, subst}
 use Rattle.ifc_base.specs.declared.memory.Refusal.{Refusal}
 use Rattle.ifc_base.specs.declared.value.Instance.{Instance}
 use Rattle.reading.specs.declared.fault.Fault.{Fault}

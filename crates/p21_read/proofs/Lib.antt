@@ -2,6 +2,7 @@ pub mod Ascii
 pub mod Depths
 pub mod Nodes
 pub mod GapLaws
+pub mod CodeLaws
 pub mod StringLaws
 pub mod RunLaws
 pub mod TokenLaws

@@ -1,151 +1,19 @@
 -- Strings in quotes: what is read is spelled so, and what is spelled so is read.
-use Rattle.std.proofs.Common.{◌≡◌, ℕ, ◌+◌, ◌*◌, ◌<◌, ◌≤◌, Bool, true, false, eqb, ltb, List, [], ◌∷◌, ◌++◌, length, Ok, refl, sym, ap, ◌∙◌, subst, inl, inr, ◌⊎◌, append_assoc, arith}
+use Rattle.std.proofs.Common.{◌≡◌, ℕ, ◌+◌, ◌<◌, ◌≤◌, Bool, true, false, eqb, ltb, List, [], ◌∷◌, ◌++◌, length, Ok, refl, sym, ap, ◌∙◌, subst, inl, inr, ◌⊎◌, append_assoc, arith}
 use Rattle.std.specs.Prelude.{◌==◌}
-use Rattle.std.specs.Char.{is_ascii_hexdigit, is_ascii_alphabetic, digit_value}
+use Rattle.std.specs.Char.{is_ascii_hexdigit, is_ascii_alphabetic}
 use Rattle.std.proofs.lemmas.Bool.{eqb-true, ltb-true, ltb-false, lt-ltb, le-ltb}
 use Rattle.std.proofs.lemmas.List.{append-nil}
 use Rattle.std.proofs.lemmas.Bool.Decides.{nat_tests}
 use Rattle.reading.specs.Codes.{is_mark}
 use Rattle.reading.specs.Reading.{Text, Refused, Shortens, ◌>>=◌, turns}
 use Rattle.reading.specs.Runs.{begins}
-use Rattle.reading.proofs.Tools.{chosen, kept, passed, bound, ok_is, tested, each_sound, Run, all_run}
+use Rattle.reading.proofs.Tools.{chosen, kept, bound, ok_is, tested, each_sound, Run, all_run}
 use Rattle.p21_read.specs.declared.fault.P21Cause.{P21Cause}
-use Rattle.p21_read.specs.declared.fault.P21Cause.TheVariants.{BadText, BadDirective, BadToken}
-use Rattle.p21_read.specs.Quoted.{next, exactly, hex, byte, unit, long, is_scalar, is_high, is_low, joined, put, second_half, four, eight, group, groups_end, groups_turn, groups, coded, shifted, page, directive, quote, piece, text}
+use Rattle.p21_read.specs.declared.fault.P21Cause.TheVariants.{BadDirective, BadToken}
+use Rattle.p21_read.specs.Quoted.{next, exactly, byte, unit, long, is_scalar, is_high, is_low, joined, put, second_half, four, eight, group, groups_end, groups_turn, groups, coded, shifted, page, directive, quote, piece, text}
 use Rattle.p21_read.specs.StringGrammar.{code2, code4, code8, AreHex, Coded, MoreCoded, Piece, Quoted}
-
-abbrev Had : Type 0
-Had = ℕ × Text
-
--- ---- what single steps read
-
-record IsNext (t : Text) (x : Had) : Type 0 where
-  parts : t ≡ x.0 ∷ x.1
-  character : is_mark x.0 ≡ false
-
-next_is : (q t : Text) (x : Had) → next q t ≡ Ok x → IsNext t x
-unfolding next
-next_is q [] x e = absurd cc
-next_is q (c ∷ t) x e =
-    let k = passed (is_mark c) (Ok (c, t)) BadText q x e in
-    subst (λ (y : Had). IsNext (c ∷ t) y) (ok_is {E = Refused P21Cause} (c, t) x k.1) (record { parts = refl; character = k.0 })
-
-exactly_is : (c : ℕ) (q t : Text) (x : Unit {0} × Text) → exactly c q t ≡ Ok x → t ≡ c ∷ x.1
-unfolding exactly
-exactly_is c q t x e =
-    let b = bound {r = next q t} e in
-    let k = kept (eqb b.0.0 c) (Ok (tt, b.0.1)) BadDirective q x b.2 in
-    (next_is q t b.0 b.1).parts ∙ ap (λ (n : ℕ). n ∷ b.0.1) (eqb-true b.0.0 c k.0) ∙ ap (λ (y : Unit {0} × Text). c ∷ y.1) (ok_is {E = Refused P21Cause} (tt, b.0.1) x k.1)
-
-record IsHex (t : Text) (n : ℕ) (u : Text) : Type 0 where
-  c : ℕ
-  parts : t ≡ c ∷ u
-  is : is_ascii_hexdigit c ≡ true
-  value : digit_value c ≡ n
-
-hex_is : (q t : Text) (x : Had) → hex q t ≡ Ok x → IsHex t x.0 x.1
-unfolding hex
-hex_is q t x e =
-    let b = bound {r = next q t} e in
-    let k = kept (is_ascii_hexdigit b.0.0) (Ok (digit_value b.0.0, b.0.1)) BadDirective q x b.2 in
-    let same = ok_is {E = Refused P21Cause} (digit_value b.0.0, b.0.1) x k.1 in
-    record { c = b.0.0; parts = (next_is q t b.0 b.1).parts ∙ ap (λ (y : Had). b.0.0 ∷ y.1) same; is = k.0; value = ap (λ (y : Had). y.0) same }
-
-record IsByte (t : Text) (n : ℕ) (u : Text) : Type 0 where
-  a : ℕ
-  b : ℕ
-  parts : t ≡ a ∷ b ∷ u
-  first : is_ascii_hexdigit a ≡ true
-  second : is_ascii_hexdigit b ≡ true
-  value : code2 a b ≡ n
-
-byte_is : (q t : Text) (x : Had) → byte q t ≡ Ok x → IsByte t x.0 x.1
-unfolding byte
-byte_is q t x e =
-    let b1 = bound {r = hex q t} e in
-    let b2 = bound {r = hex q b1.0.1} b1.2 in
-    let h1 = hex_is q t b1.0 b1.1 in
-    let h2 = hex_is q b1.0.1 b2.0 b2.1 in
-    let same = ok_is {E = Refused P21Cause} (16 * b1.0.0 + b2.0.0, b2.0.1) x b2.2 in
-    record {
-      a = h1.c;
-      b = h2.c;
-      parts = h1.parts ∙ ap (λ (r : Text). h1.c ∷ r) h2.parts ∙ ap (λ (y : Had). h1.c ∷ h2.c ∷ y.1) same;
-      first = h1.is;
-      second = h2.is;
-      value = ap (λ (n : ℕ). 16 * n + digit_value h2.c) h1.value ∙ ap (λ (n : ℕ). 16 * b1.0.0 + n) h2.value ∙ ap (λ (y : Had). y.0) same;
-    }
-
-record IsUnit (t : Text) (n : ℕ) (u : Text) : Type 0 where
-  a : ℕ
-  b : ℕ
-  c : ℕ
-  d : ℕ
-  parts : t ≡ a ∷ b ∷ c ∷ d ∷ u
-  are : AreHex a b c d
-  value : code4 a b c d ≡ n
-
-unit_is : (q t : Text) (x : Had) → unit q t ≡ Ok x → IsUnit t x.0 x.1
-unfolding unit
-unit_is q t x e =
-    let b1 = bound {r = byte q t} e in
-    let b2 = bound {r = byte q b1.0.1} b1.2 in
-    let h1 = byte_is q t b1.0 b1.1 in
-    let h2 = byte_is q b1.0.1 b2.0 b2.1 in
-    let same = ok_is {E = Refused P21Cause} (256 * b1.0.0 + b2.0.0, b2.0.1) x b2.2 in
-    record {
-      a = h1.a;
-      b = h1.b;
-      c = h2.a;
-      d = h2.b;
-      parts = h1.parts ∙ ap (λ (r : Text). h1.a ∷ h1.b ∷ r) h2.parts ∙ ap (λ (y : Had). h1.a ∷ h1.b ∷ h2.a ∷ h2.b ∷ y.1) same;
-      are = record { first = h1.first; second = h1.second; third = h2.first; fourth = h2.second };
-      value = ap (λ (n : ℕ). 256 * n + code2 h2.a h2.b) h1.value ∙ ap (λ (n : ℕ). 256 * b1.0.0 + n) h2.value ∙ ap (λ (y : Had). y.0) same;
-    }
-
-record IsLong (t : Text) (n : ℕ) (u : Text) : Type 0 where
-  a : ℕ
-  b : ℕ
-  c : ℕ
-  d : ℕ
-  e : ℕ
-  f : ℕ
-  g : ℕ
-  h : ℕ
-  parts : t ≡ a ∷ b ∷ c ∷ d ∷ e ∷ f ∷ g ∷ h ∷ u
-  are : AreHex a b c d
-  too : AreHex e f g h
-  value : code8 a b c d e f g h ≡ n
-
-long_is : (q t : Text) (x : Had) → long q t ≡ Ok x → IsLong t x.0 x.1
-unfolding long
-long_is q t x e =
-    let b1 = bound {r = unit q t} e in
-    let b2 = bound {r = unit q b1.0.1} b1.2 in
-    let h1 = unit_is q t b1.0 b1.1 in
-    let h2 = unit_is q b1.0.1 b2.0 b2.1 in
-    let same = ok_is {E = Refused P21Cause} (65536 * b1.0.0 + b2.0.0, b2.0.1) x b2.2 in
-    record {
-      a = h1.a;
-      b = h1.b;
-      c = h1.c;
-      d = h1.d;
-      e = h2.a;
-      f = h2.b;
-      g = h2.c;
-      h = h2.d;
-      parts = h1.parts ∙ ap (λ (r : Text). h1.a ∷ h1.b ∷ h1.c ∷ h1.d ∷ r) h2.parts ∙ ap (λ (y : Had). h1.a ∷ h1.b ∷ h1.c ∷ h1.d ∷ h2.a ∷ h2.b ∷ h2.c ∷ h2.d ∷ y.1) same;
-      are = h1.are;
-      too = h2.are;
-      value = ap (λ (n : ℕ). 65536 * n + code4 h2.a h2.b h2.c h2.d) h1.value ∙ ap (λ (n : ℕ). 65536 * b1.0.0 + n) h2.value ∙ ap (λ (y : Had). y.0) same;
-    }
-
-abbrev Out : Type 0
-Out = List ℕ × Text
-
-put_is : (q : Text) (s : List ℕ) (code : ℕ) (t : Text) (x : Out) → put q s code t ≡ Ok x → (is_scalar code ≡ true) × ((s ++ code ∷ [], t) ≡ x)
-unfolding put
-put_is q s code t x e = let k = kept (is_scalar code) (Ok (s ++ code ∷ [], t)) BadDirective q x e in (k.0, ok_is {E = Refused P21Cause} (s ++ code ∷ [], t) x k.1)
+use Rattle.p21_read.proofs.CodeLaws.{Had, IsNext, next_is, exactly_is, byte_is, unit_is, long_is, Out, put_is, hex_other, not_high, code2_scalar, joined_scalar, shift_character, byte_reads, unit_reads, long_reads, put_reads}
 
 -- ---- groups
 
@@ -155,6 +23,10 @@ One is_long t s x = (c : ℕ) × Coded is_long t c x.1 × (s ++ c ∷ [] ≡ x.0
 
 one : (is_long : Bool) (t : Text) (s : List ℕ) (c : ℕ) (u : Text) (x : Out) → Coded is_long t c u → (s ++ c ∷ [], u) ≡ x → One is_long t s x
 one is_long t s c u x h same = subst (λ (y : Out). One is_long t s y) same (c, h, refl)
+
+-- the same number, added
+same_code : (s : List ℕ) (n m : ℕ) (u : Text) (x : Out) → n ≡ m → (s ++ m ∷ [], u) ≡ x → (s ++ n ∷ [], u) ≡ x
+same_code s n m u x e same = ap (λ (c : ℕ). (s ++ c ∷ [], u)) e ∙ same
 
 half_sound : (q : Text) (s : List ℕ) (a b c d : ℕ) (t : Text) (x : Out) → AreHex a b c d → is_high (code4 a b c d) ≡ true → second_half q s (code4 a b c d) t ≡ Ok x
     → One false (a ∷ b ∷ c ∷ d ∷ t) s x
@@ -185,7 +57,7 @@ four_sound q s t x e =
           let done = put_is q s b.0.0 b.0.1 x k.1 in
           let scalar : is_scalar (code4 u.a u.b u.c u.d) ≡ true = rw u.value done.0 in
           let spelled = Coded.four u.a u.b u.c u.d b.0.1 u.are scalar in
-          let same : (s ++ code4 u.a u.b u.c u.d ∷ [], b.0.1) ≡ x = ap (λ (n : ℕ). (s ++ n ∷ [], b.0.1)) u.value ∙ done.1 in
+          let same = same_code s (code4 u.a u.b u.c u.d) b.0.0 b.0.1 x u.value done.1 in
           subst (λ (r : Text). One false r s x) (sym u.parts) (one false (u.a ∷ u.b ∷ u.c ∷ u.d ∷ b.0.1) s (code4 u.a u.b u.c u.d) b.0.1 x spelled same)
     ]
 
@@ -197,7 +69,7 @@ eight_sound q s t x e =
     let done = put_is q s b.0.0 b.0.1 x b.2 in
     let scalar : is_scalar (code8 u.a u.b u.c u.d u.e u.f u.g u.h) ≡ true = rw u.value done.0 in
     let spelled = Coded.eight u.a u.b u.c u.d u.e u.f u.g u.h b.0.1 u.are u.too scalar in
-    let same : (s ++ code8 u.a u.b u.c u.d u.e u.f u.g u.h ∷ [], b.0.1) ≡ x = ap (λ (n : ℕ). (s ++ n ∷ [], b.0.1)) u.value ∙ done.1 in
+    let same = same_code s (code8 u.a u.b u.c u.d u.e u.f u.g u.h) b.0.0 b.0.1 x u.value done.1 in
     subst (λ (r : Text). One true r s x) (sym u.parts) (one true (u.a ∷ u.b ∷ u.c ∷ u.d ∷ u.e ∷ u.f ∷ u.g ∷ u.h ∷ b.0.1) s (code8 u.a u.b u.c u.d u.e u.f u.g u.h) b.0.1 x spelled same)
 
 group_sound : (is_long : Bool) (q : Text) (s : List ℕ) (t : Text) (x : Out) → group is_long q s t ≡ Ok x → One is_long t s x
@@ -301,7 +173,7 @@ latin_sound q s t x e =
     let p = bound {r = byte q t} e in
     let two = byte_is q t p.0 p.1 in
     let done = put_is q s p.0.0 p.0.1 x p.2 in
-    let same : (s ++ code2 two.a two.b ∷ [], p.0.1) ≡ x = ap (λ (n : ℕ). (s ++ n ∷ [], p.0.1)) two.value ∙ done.1 in
+    let same = same_code s (code2 two.a two.b) p.0.0 p.0.1 x two.value done.1 in
     subst (λ (r : Text). Does (92 ∷ 88 ∷ 92 ∷ r) s x) (sym two.parts)
     (does (92 ∷ 88 ∷ 92 ∷ two.a ∷ two.b ∷ p.0.1) s (code2 two.a two.b ∷ []) p.0.1 x (Piece.latin two.a two.b p.0.1 two.first two.second) same)
 
@@ -452,47 +324,6 @@ text_sound q t s u e =
     subst (λ (r : List ℕ). Quoted t r u) k.2 k.1
 
 -- ---- what is spelled so is read
-
-hex_other : (a : ℕ) → is_ascii_hexdigit a ≡ true → eqb a 92 ≡ false
-hex_other a is = grind (arith, nat_tests)
-
-hex_character : (a : ℕ) → is_ascii_hexdigit a ≡ true → is_mark a ≡ false
-hex_character a is = grind (arith, nat_tests)
-
-not_high : (n : ℕ) → is_scalar n ≡ true → is_high n ≡ false
-not_high n is = grind (arith, nat_tests)
-
-digit_small : (a : ℕ) → digit_value a ≤ 36
-digit_small a = grind (arith, nat_tests)
-
-code2_scalar : (a b : ℕ) → is_scalar (code2 a b) ≡ true
-code2_scalar a b = let low : code2 a b < 0xD800 = omega (arith, digit_small a, digit_small b) in rw (lt-ltb (code2 a b) 0xD800 low) refl
-
-joined_scalar : (h l : ℕ) → is_high h ≡ true → is_low l ≡ true → is_scalar (joined h l) ≡ true
-joined_scalar h l is_h is_l = grind (arith, nat_tests)
-
-shift_character : (c : ℕ) → is_scalar (c + 128) ≡ true → is_mark c ≡ false
-shift_character c is = grind (arith, nat_tests)
-
-hex_reads : (q : Text) (a : ℕ) (t : Text) → is_ascii_hexdigit a ≡ true → hex q (a ∷ t) ≡ Ok (digit_value a, t)
-unfolding hex next
-hex_reads q a t is = rw (hex_character a is, is) refl
-
-byte_reads : (q : Text) (a b : ℕ) (t : Text) → is_ascii_hexdigit a ≡ true → is_ascii_hexdigit b ≡ true → byte q (a ∷ b ∷ t) ≡ Ok (code2 a b, t)
-unfolding byte
-byte_reads q a b t first second = rw (hex_reads q a (b ∷ t) first, hex_reads q b t second) refl
-
-unit_reads : (q : Text) (a b c d : ℕ) (t : Text) → AreHex a b c d → unit q (a ∷ b ∷ c ∷ d ∷ t) ≡ Ok (code4 a b c d, t)
-unfolding unit
-unit_reads q a b c d t are = rw (byte_reads q a b (c ∷ d ∷ t) are.first are.second, byte_reads q c d t are.third are.fourth) refl
-
-long_reads : (q : Text) (a b c d e f g h : ℕ) (t : Text) → AreHex a b c d → AreHex e f g h → long q (a ∷ b ∷ c ∷ d ∷ e ∷ f ∷ g ∷ h ∷ t) ≡ Ok (code8 a b c d e f g h, t)
-unfolding long
-long_reads q a b c d e f g h t are too = rw (unit_reads q a b c d (e ∷ f ∷ g ∷ h ∷ t) are, unit_reads q e f g h t too) refl
-
-put_reads : (q : Text) (s : List ℕ) (c : ℕ) (t : Text) → is_scalar c ≡ true → put q s c t ≡ Ok (s ++ c ∷ [], t)
-unfolding put
-put_reads q s c t is = rw is refl
 
 group_complete : {is_long : Bool} {t : Text} {c : ℕ} {u : Text} (q : Text) (s : List ℕ) → Coded is_long t c u → group is_long q s t ≡ Ok (s ++ c ∷ [], u)
 unfolding four eight second_half

@@ -1,3 +1,15 @@
 pub mod Ascii
 pub mod Depths
 pub mod Nodes
+pub mod GapLaws
+pub mod CodeLaws
+pub mod StringLaws
+pub mod RunLaws
+pub mod TokenLaws
+pub mod ValueLaws
+pub mod ValueComplete
+pub mod InstanceLaws
+pub mod ReadLaws
+pub mod HeaderLaws
+pub mod FileLaws
+pub mod ValueTurns

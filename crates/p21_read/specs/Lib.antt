@@ -8,3 +8,7 @@ pub mod Instances
 pub mod Readings
 pub mod Headers
 pub mod Files
+pub mod StringGrammar
+pub mod TokenGrammar
+pub mod Grammar
+pub mod FileGrammar

@@ -8,6 +8,7 @@ mod gap;
 mod gathered;
 mod header;
 mod instance;
+mod laws;
 mod number;
 mod quoted;
 mod read;
@@ -18,4 +19,5 @@ mod word;
 
 pub use fault::{P21Cause, P21Fault};
 pub use file::P21File;
+pub use laws::{one_file, one_instance, one_value, turns_shorten};
 pub use read::{read_file, read_instance, read_value};

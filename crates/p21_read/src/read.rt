@@ -1,6 +1,12 @@
 //! From bytes to a value, to an instance, to a file.
 
+ghost use Rattle.std.specs.Prelude.{Ok, IfOk};
+ghost use Rattle.ifc_base.specs.declared.value.Instance.{Instance};
+ghost use Rattle.ifc_base.specs.declared.value.Value.{Value};
 ghost use Rattle.reading.specs.Lines.{Answers};
+ghost use Rattle.p21_read.specs.FileGrammar.{ReadsFile};
+ghost use Rattle.p21_read.specs.Grammar.{ReadsInstance, ReadsValue};
+ghost use Rattle.p21_read.specs.declared.file.P21File.{P21File};
 ghost use Rattle.p21_read.specs.Readings as spec;
 
 use crate::fault::P21Fault;
@@ -16,6 +22,10 @@ use std::alloc::Global;
 /// What stands behind it is BadToken, where it has no cause of its own; IdRange, of the first reference out of range, comes after
 /// that. The value, or the first fault with its line; or want of memory, which says nothing of the bytes. `O(n)`, in one pass.
 pub fn read_value(alloc: Global, bytes: &[u8]) -> Result<Value, Refusal<P21Fault>>
+    // What is read is spelled so.
+    ensures found { IfOk result (λ x. ReadsValue bytes.now x) }
+    // What is spelled so is read, unless memory runs out.
+    ensures only { (x : Value) → ReadsValue bytes.now x → Answers (λ x. x) result (Ok x) }
     // The value that the bytes spell, or which fault is the first, and in which line.
     ensures exact { Answers (λ x. x) result (spec.value_reading bytes.now) }
 {
@@ -29,6 +39,10 @@ pub fn read_value(alloc: Global, bytes: &[u8]) -> Result<Value, Refusal<P21Fault
 /// range, comes after that. The instance, or the first fault with its line; or want of memory, which says nothing of the bytes.
 /// `O(n)`, in one pass.
 pub fn read_instance(alloc: Global, bytes: &[u8]) -> Result<Instance, Refusal<P21Fault>>
+    // What is read is spelled so.
+    ensures found { IfOk result (λ x. ReadsInstance bytes.now x) }
+    // What is spelled so is read, unless memory runs out.
+    ensures only { (x : Instance) → ReadsInstance bytes.now x → Answers (λ x. x) result (Ok x) }
     // The instance that the bytes spell, or which fault is the first, and in which line.
     ensures exact { Answers (λ x. x) result (spec.instance_reading bytes.now) }
 {
@@ -44,6 +58,10 @@ pub fn read_instance(alloc: Global, bytes: &[u8]) -> Result<Instance, Refusal<P2
 /// The file, or the first fault with its line, where the faults of one instance come in this order: that of a token up to its
 /// semicolon, IdRange, IdTwice, TooManyInstances; or want of memory, which says nothing of the bytes. `O(n)`, in one pass.
 pub fn read_file(alloc: Global, bytes: &[u8], most: u32) -> Result<P21File, Refusal<P21Fault>>
+    // What is read is spelled so.
+    ensures found { IfOk result (λ x. ReadsFile most bytes.now x) }
+    // What is spelled so is read, unless memory runs out.
+    ensures only { (x : P21File) → ReadsFile most bytes.now x → Answers (λ x. x) result (Ok x) }
     // The file that the bytes spell, or which fault is the first, and in which line.
     ensures exact { Answers (λ x. x) result (spec.file_reading most bytes.now) }
 {

@@ -1,4 +1,6 @@
--- Which declarations tokens are, by cases (ISO 10303-11, clause 9, declarations). In each relation the last list is what follows.
+-- Which declarations tokens are, by cases (ISO 10303-11, clause 9, declarations), cut to what is kept. In each relation the last list is
+-- what follows. Signs stand by their codes: 40 and 41 are the parentheses, 44 the comma, 46 the dot, 58 the colon, 59 the semicolon, 61 `=`,
+-- 92 the backslash. Any word may be a name.
 use Rattle.std.specs.Prelude.{◌≡◌, ℕ, Bool, true, false, ◌&&◌, ◌||◌, List, [], ◌∷◌, ◌++◌, Option, Some, None, if◌then◌else◌, map, codes}
 use Rattle.std.specs.Char.{to_ascii_uppercase}
 use Rattle.ifc_base.specs.declared.decl.EntityDecl.{EntityDecl}
@@ -10,7 +12,7 @@ use Rattle.express_decl.specs.Lexical.{Tokens}
 
 -- ---- texts that are passed over
 
--- tokens up to the first one of this kind, and that one
+-- tokens up to the first one of this kind, and that one: what stands before it isn't looked at
 pub data UpTo (last : Token → Bool) : List Token → List Token → Type 0 where
   here : {x : Token} {u : List Token} → last x ≡ true → UpTo last (x ∷ u) u
   later : {x : Token} {xs u : List Token} → last x ≡ false → UpTo last xs u → UpTo last (x ∷ xs) u
@@ -63,7 +65,7 @@ unfoldable pub redeclares : List Token → List (List ℕ)
 redeclares (s ∷ b ∷ Word e ∷ d ∷ Word a ∷ others) = if says (codes "SELF") s && (is_sign 92 b && is_sign 46 d) then a ∷ [] else []
 redeclares others = []
 
--- those of these lines
+-- the names of these lines
 unfoldable pub redeclared_names : List (List Token) → List (List ℕ)
 redeclared_names [] = []
 redeclared_names (line ∷ lines) = redeclares line ++ redeclared_names lines
@@ -86,7 +88,7 @@ pub data Sections : List Token → List (List ℕ) → List Token → Type 0 whe
 abbrev pub in_upper_case : List ℕ → List ℕ
 in_upper_case word = map to_ascii_uppercase word
 
--- `[ABSTRACT]`, and whether it is there (9.2.3.3, 9.2.4)
+-- `[ABSTRACT]`, and whether it is there (9.2.4)
 pub data Abstract : List Token → Bool → List Token → Type 0 where
   isnt : {u : List Token} → Abstract u false u
   is : {x : Token} {u : List Token} → says (codes "ABSTRACT") x ≡ true → Abstract (x ∷ u) true u
@@ -103,7 +105,7 @@ pub data Subtype : List Token → Option (List ℕ) → List Token → Type 0 wh
   of_ : {x y : Token} {m : List ℕ} {u : List Token} → says (codes "SUBTYPE") x ≡ true → says (codes "OF") y ≡ true
       → Subtype (x ∷ y ∷ Sign 40 ∷ Word m ∷ Sign 41 ∷ Sign 59 ∷ u) (Some (in_upper_case m)) u
 
--- `ENTITY n [ABSTRACT] [SUPERTYPE [OF (text)]] [SUBTYPE OF (m)]; attributes sections END_ENTITY;`
+-- `ENTITY n [ABSTRACT] [SUPERTYPE [OF (text)]] [SUBTYPE OF (m)]; attributes sections END_ENTITY;`. The names n and m are kept in upper case.
 pub data IsEntity : List Token → EntityDecl → List Token → Type 0 where
   entity : {x e : Token} {n : List ℕ} {xs ys zs vs ws u : List Token} {is_abstract : Bool} {parent : Option (List ℕ)} {own derived : List (List ℕ)}
       → says (codes "ENTITY") x ≡ true → Abstract xs is_abstract ys → Supertype ys zs → Subtype zs parent vs → Attributes vs own ws
@@ -117,7 +119,7 @@ pub data TypeEnd : List Token → List Token → Type 0 where
   plain : {e : Token} {u : List Token} → says (codes "END_TYPE") e ≡ true → TypeEnd (e ∷ Sign 59 ∷ u) u
   where_ : {x : Token} {xs u : List Token} → says (codes "WHERE") x ≡ true → UpTo (says (codes "END_TYPE")) xs (Sign 59 ∷ u) → TypeEnd (x ∷ xs) u
 
--- `TYPE t = text; [WHERE text] END_TYPE;`
+-- `TYPE t = text; [WHERE text] END_TYPE;`, of which the name is kept, in upper case
 pub data IsType : List Token → TypeDecl → List Token → Type 0 where
   type : {x : Token} {n : List ℕ} {xs ys u : List Token} → says (codes "TYPE") x ≡ true → TypeText xs ys → TypeEnd ys u
       → IsType (x ∷ Word n ∷ Sign 61 ∷ xs) (record { name = in_upper_case n }) u

@@ -1,2 +1,14 @@
 pub mod Places
 pub mod Words
+pub mod DeclTools
+pub mod LexicalLaws
+pub mod StepLaws
+pub mod PassLaws
+pub mod PartLaws
+pub mod AttributeLaws
+pub mod DeriveLaws
+pub mod BodyLaws
+pub mod BodyComplete
+pub mod EntityLaws
+pub mod SchemaLaws
+pub mod ReadLaws

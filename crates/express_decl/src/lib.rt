@@ -3,6 +3,7 @@
 
 mod decl;
 mod entity;
+mod laws;
 mod remark;
 mod schema;
 mod section;
@@ -11,4 +12,5 @@ mod token;
 mod word;
 
 pub use decl::{DeclCause, DeclFault, Decls};
+pub use laws::{one_result, one_token_list};
 pub use schema::read_declarations;

@@ -1,10 +1,12 @@
 //! Schemas, from bytes to declarations.
 
-ghost use Rattle.std.specs.Prelude.{◌≡◌};
+ghost use Rattle.std.specs.Prelude.{◌≡◌, Ok, IfOk};
 ghost use Rattle.std.specs.Option.{option_map};
 ghost use Rattle.reading.specs.Codes.{codes_of};
 ghost use Rattle.reading.specs.Lines.{Answers};
 ghost use Rattle.reading.specs.Reading.{Gives, Yields};
+ghost use Rattle.express_decl.specs.declared.decl.Decls.{Decls};
+ghost use Rattle.express_decl.specs.Grammar.{Declares};
 ghost use Rattle.express_decl.specs.Schemas as spec;
 ghost use Rattle.express_decl.specs.Tokens.{lexed_view, token_view};
 
@@ -165,7 +167,11 @@ fn whole(alloc: Global, bytes: &[u8]) -> Result<Decls, Stop<'_, DeclCause>>
 /// passed over, but for the names that DERIVE redeclares. Words are the same in either case. Remarks and parentheses may nest as
 /// deep as memory allows. The grammar is that of ISO 10303-11 (schema, entity and type declarations), cut to what is kept.
 pub fn read_declarations(alloc: Global, bytes: &[u8]) -> Result<Decls, Refusal<DeclFault>>
-    // Which declarations they are; or which fault it is, and in which line.
+    // What is read is what the bytes declare.
+    ensures found { IfOk result (λ decls. Declares bytes.now decls) }
+    // What the bytes declare is read, unless memory runs out.
+    ensures only { (declared : Decls) → Declares bytes.now declared → Answers (λ decls. decls) result (Ok declared) }
+    // Which fault it is, and in which line.
     ensures exact { Answers (λ decls. decls) result (spec.reading bytes.now) }
 {
     answer(bytes, whole(alloc, bytes))

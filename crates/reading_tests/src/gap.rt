@@ -14,9 +14,10 @@ struct Blank;
 impl Class for Blank {
     ghost has_code = { λ _ c. spec.is_blank c };
 
+    #[inline(always)]
     #[tactic(auto, unfolding(crate::specs::Nest::is_blank))]
     fn has(&self, code: Code) -> bool {
-        code.is(' ') || code.is('\t') || code.is('\n') || code.is('\r')
+        matches!(code, Code::Char(' ' | '\t' | '\n' | '\r'))
     }
 }
 
@@ -52,6 +53,22 @@ fn comment<'a>(cursor: &mut Cursor<'a>, start: &'a [u8]) -> Result<(), Stop<'a, 
     Err(Stop::Refused(Cause::Unclosed, start))
 }
 
+/// Passes the comment that begins with the slash at `at`, behind which the cursor stands. It comes seldom, so it stands apart.
+#[tactic(auto, unfolding(crate::specs::Nest::after_slash))]
+#[inline(never)]
+fn after_slash<'a>(cursor: &mut Cursor<'a>, at: &'a [u8]) -> Result<bool, Stop<'a, Cause>>
+    ensures { Gives (λ more. (more, tt)) result cursor.new (spec.after_slash (codes_of at.now) cursor.old) }
+{
+    let Some(star) = cursor.next() else {
+        return Err(Stop::Refused(Cause::BadToken, at));
+    };
+    if !star.is('*') {
+        return Err(Stop::Refused(Cause::BadToken, at));
+    }
+    comment(cursor, at)?;
+    Ok(true)
+}
+
 /// Passes blanks or one comment, if they come next.
 #[tactic(auto, using(reading::proofs::RunLaws::pass_laws), unfolding(crate::specs::Nest::gap_turn))]
 #[inline(always)]
@@ -64,16 +81,10 @@ fn blank_or_comment<'a>(cursor: &mut Cursor<'a>) -> Result<bool, Stop<'a, Cause>
     };
     if code.is('/') {
         let _ = cursor.next();
-        let Some(star) = cursor.next() else {
-            return Err(Stop::Refused(Cause::BadToken, at));
-        };
-        if !star.is('*') {
-            return Err(Stop::Refused(Cause::BadToken, at));
-        }
-        comment(cursor, at)?;
-        return Ok(true);
+        return after_slash(cursor, at);
     }
     if Blank.has(code) {
+        let _ = cursor.next();
         cursor.pass_run(&Blank);
         return Ok(true);
     }

@@ -18,6 +18,8 @@ use std::alloc::Global;
 const MAX_DEPTH: usize = 32;
 
 /// Why the token doesn't belong where it stands. `outer` is the innermost parenthesis that is open.
+#[cold]
+#[inline(never)]
 fn misplaced<'a>(outer: Option<&'a [u8]>, token: Token, at: &'a [u8]) -> Stop<'a, Cause>
     ensures { Fails result (spec.failing (spec.misplaced (spec.place outer.entry) token (codes_of at.now))) }
 {

@@ -43,6 +43,7 @@ fn digit(code: Code) -> Option<u32>
 }
 
 /// The number whose digits so far are `so_far`.
+#[inline(always)]
 #[tactic(auto, using(crate::proofs::Numbers::number_laws, reading::proofs::RunLaws::run_laws))]
 fn number<'a>(cursor: &mut Cursor<'a>, at: &'a [u8], so_far: u32) -> Result<u32, Stop<'a, Cause>>
     requires { so_far ≤ 999999999 }

@@ -1,7 +1,8 @@
 -- What actors hold stays theirs while others make entries.
-use Rattle.std.proofs.Common.{◌≡◌, ℕ, suc, zero, ◌+◌, ◌<◌, ◌≤◌, Bool, true, false, not, cond, ◌||◌, ◌==◌, List, [], ◌∷◌, ◌++◌, length, take, drop, get_or, Option, Some, None, refl, arith, ap, sym, subst, ◌∙◌}
-use Rattle.std.specs.List.{cons_option, remove}
+use Rattle.std.proofs.Common.{◌≡◌, ℕ, suc, zero, ◌+◌, ◌<◌, ◌≤◌, Bool, true, false, not, cond, ◌||◌, ◌==◌, List, [], ◌∷◌, ◌++◌, length, get_or, Option, Some, None, refl, arith, ap, sym, subst, ◌∙◌}
+use Rattle.std.specs.List.{cons_option, remove, position, position_or_len, before_first, after_first}
 use Rattle.std.proofs.lemmas.Bool.{and_parts, eqb-true, ne_eqb, true≢false}
+use Rattle.std.proofs.lemmas.List.Quantifiers.{position-Some}
 use Rattle.ifc_base.specs.declared.key.Key.{Key}
 use Rattle.audit_model.specs.declared.commit.CommitRefusal.{CommitRefusal}
 use Rattle.audit_model.specs.declared.verdict.Pair.{Pair}
@@ -23,7 +24,8 @@ use Rattle.audit_core.specs.Cores.{now_in}
 use Rattle.audit_core.specs.Steps.{given_of}
 use Rattle.audit_run.specs.declared.hands.Begun.{Begun}
 use Rattle.audit_run.specs.declared.hands.Taken.{Taken}
-use Rattle.audit_run.specs.Holding.{IsTaken, AreTaken, AreLater, AreBegun, is_began, begins, has_begun}
+use Rattle.audit_run.specs.Holding.{IsTaken, AreTaken, AreLater, AreBegun, is_began, begins, has_begun, begun_on, taken_as, drafted_by, taken_by, draft_of, other_drafts, claim_of, other_claims}
+use Rattle.audit_run.proofs.Firsts.{first_at, first_removed, split_first}
 
 -- a claim that is out is of a revision so far
 early : (g : Ground) (h : List StepRec) (t : Taken) → Legal g h → IsTaken g h t → t.claim.snapshot.revision ≤ revision h
@@ -147,7 +149,21 @@ parted g h (x ∷ xs) t back k =
       differ = (ne_eqb x.claim.number t.claim.number (omega (arith, later.0)), rest.differ);
     }
 
+-- the actor's first claim, and the others
+pub parted_first : (g : Ground) (h : List StepRec) (actor : ℕ) (ts : List Taken) (t : Taken) → claim_of actor ts ≡ Some t → AreTaken g h ts → AreParted g h t (other_claims actor ts)
+parted_first g h actor ts t e k = parted g h (before_first (taken_by actor) ts) t (after_first (taken_by actor) ts) (subst (AreTaken g h) (split_first (taken_by actor) ts t e) k)
+
+pub claim_there : (actor : ℕ) (ts : List Taken) (i : ℕ) (t : Taken) → position (taken_by actor) ts ≡ Some i → t ≡ get_or ts i t → Some (taken_as actor t.claim) ≡ claim_of actor ts
+claim_there actor ts i t e at =
+    let by : t.actor ≡ actor = ap (λ (x : Taken). x.actor) at ∙ eqb-true (get_or ts i t).actor actor (position-Some (taken_by actor) ts i t e).1 in
+    ap (λ (n : ℕ). Some (taken_as n t.claim)) (sym by) ∙ sym (first_at (taken_by actor) ts i t e at)
+
 -- Drafts.
+
+pub draft_there : (actor : ℕ) (bs : List Begun) (i : ℕ) (b : Begun) → position (drafted_by actor) bs ≡ Some i → b ≡ get_or bs i b → Some (begun_on actor b.base) ≡ draft_of actor bs
+draft_there actor bs i b e at =
+    let by : b.actor ≡ actor = ap (λ (x : Begun). x.actor) at ∙ eqb-true (get_or bs i b).actor actor (position-Some (drafted_by actor) bs i b e).1 in
+    ap (λ (n : ℕ). Some (begun_on n b.base)) (sym by) ∙ sym (first_at (drafted_by actor) bs i b e at)
 
 pub begun_more : (e : StepRec) (h : List StepRec) (bs : List Begun) → AreBegun h bs → AreBegun (e ∷ h) bs
 begun_more e h [] p = tt
@@ -157,16 +173,25 @@ pub begun_push : (h : List StepRec) (bs : List Begun) (b : Begun) → AreBegun h
 begun_push h [] b p l = (l, tt)
 begun_push h (x ∷ xs) b p l = (p.0, begun_push h xs b p.1 l)
 
-pub begun_at : (h : List StepRec) (bs : List Begun) (i : ℕ) (d : Begun) → AreBegun h bs → i < length bs → has_begun h (get_or bs i d).actor (get_or bs i d).base.revision ≡ true
-begun_at h [] i d p l = absurd (omega arith)
-begun_at h (b ∷ bs) zero d p l = p.0
-begun_at h (b ∷ bs) (suc i) d p l = begun_at h bs i d p.1 (omega (arith, l))
-
 pub begun_remove : (h : List StepRec) (bs : List Begun) (i : ℕ) → AreBegun h bs → AreBegun h (remove bs i)
 begun_remove h [] zero p = tt
 begun_remove h [] (suc i) p = tt
 begun_remove h (b ∷ bs) zero p = p.1
 begun_remove h (b ∷ bs) (suc i) p = (p.0, begun_remove h bs i p.1)
+
+-- the actor's draft was begun, and so were the others
+pub begun_first : (h : List StepRec) (actor : ℕ) (bs : List Begun) (b : Begun) → AreBegun h bs → draft_of actor bs ≡ Some b → has_begun h b.actor b.base.revision ≡ true
+begun_first h actor [] b p e = absurd (cc)
+begun_first h actor (x ∷ xs) b p e =
+    let F : Bool → Type 0 = λ t. cond t (Some x) (draft_of actor xs) ≡ Some b → has_begun h b.actor b.base.revision ≡ true in
+    let at : F (x.actor == actor) = elim (x.actor == actor) as F [
+      | true ↦ λ k. let same : x ≡ b = cc in subst (λ (y : Begun). has_begun h y.actor y.base.revision ≡ true) same p.0
+      | false ↦ λ k. begun_first h actor xs b p.1 k
+    ] in
+    at e
+
+pub begun_others : (h : List StepRec) (actor : ℕ) (bs : List Begun) → AreBegun h bs → AreBegun h (other_drafts actor bs)
+begun_others h actor bs p = subst (AreBegun h) (first_removed (drafted_by actor) bs) (begun_remove h bs (position_or_len (drafted_by actor) bs) p)
 
 pub revision_grows : (e : StepRec) (h : List StepRec) → revision h ≤ revision (e ∷ h)
 revision_grows e h = elim (accepted e) as (λ o. length (commits h) ≤ length (cons_option o (commits h))) [ None ↦ omega arith | Some edits ↦ omega arith ]
@@ -210,9 +235,3 @@ begun_past g (e ∷ h) actor r l b =
     ] in
     let early : r ≤ revision h = at refl b in
     omega (arith, early, revision_grows e h)
-
--- a list around one of its elements
-pub split_at_place : {X : Type 0} (xs : List X) (i : ℕ) (x : X) → i < length xs → x ≡ get_or xs i x → xs ≡ take i xs ++ x ∷ drop (suc i) xs
-split_at_place [] i x l e = absurd (omega arith)
-split_at_place (y ∷ ys) zero x l e = ap (λ z. z ∷ ys) (sym e)
-split_at_place (y ∷ ys) (suc i) x l e = ap (λ zs. y ∷ zs) (split_at_place ys i x (omega (arith, l)) e)

@@ -1,2 +1,4 @@
+pub mod ActLaws
+pub mod Firsts
 pub mod HoldLaws
 pub mod PlayLaws

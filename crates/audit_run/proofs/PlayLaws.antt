@@ -25,9 +25,9 @@ use Rattle.audit_run.specs.declared.hands.Taken.{Taken}
 use Rattle.audit_run.specs.declared.calls.Act.{Act}
 use Rattle.audit_run.specs.declared.calls.Act.TheVariants as act
 use Rattle.audit_run.specs.declared.calls.Asked.{Asked}
-use Rattle.audit_run.specs.Holding.{HandsView, IsTaken, AreTaken, AreBegun, begins, has_begun, IsTakenOut, IsFindingOf}
+use Rattle.audit_run.specs.Holding.{HandsView, IsTaken, AreTaken, AreBegun, begins, has_begun, taken_as, claim_of, other_claims, IsFindingOf}
 use Rattle.audit_run.specs.Runs.{IsCallOf, IsEntryOf, IsStep, IsRun, reported, reports, IsHolding, IsPlayed, IsPlay}
-use Rattle.audit_run.proofs.HoldLaws.{LeavesOut, Differs, AreParted, all_taken, each_all, each_map, taken_more, delivery_leaves, return_leaves, parted, begun_more, begun_push}
+use Rattle.audit_run.proofs.HoldLaws.{LeavesOut, Differs, AreParted, all_taken, each_all, each_map, taken_more, delivery_leaves, return_leaves, parted_first, begun_more, begun_push}
 
 -- Playing.
 
@@ -113,9 +113,9 @@ idle {old = old} {hands = hands} actor k a =
 
 -- Ending claims.
 
--- the claim that was taken out of the hands, and what they still hold
-pub out_of : {core : CoreView} {hands : HandsView} {actor : ℕ} {claim : ClaimView} {rest : List Taken} → IsHolding core hands → IsTakenOut actor claim hands.claims rest → AreParted core.ground core.history (record { actor = actor; claim = claim }) rest
-out_of {core = core} {actor = actor} {claim = claim} k t = rw t.new_is (parted core.ground core.history t.front (record { actor = actor; claim = claim }) t.back (rw (← t.old_is) k.claims))
+-- the first claim of the actor's in the hands, and what they hold beside it
+pub out_of : {core : CoreView} {hands : HandsView} {actor : ℕ} {claim : ClaimView} {rest : List Taken} → IsHolding core hands → Some (taken_as actor claim) ≡ claim_of actor hands.claims → rest ≡ other_claims actor hands.claims → AreParted core.ground core.history (taken_as actor claim) rest
+out_of {core = core} {hands = hands} {actor = actor} {claim = claim} k e r = rw r (parted_first core.ground core.history actor hands.claims (taken_as actor claim) (sym e) k.claims)
 
 pub true_finding : {core : CoreView} {actor : ℕ} {claim : ClaimView} {finding : FindingView} → IsTaken core.ground core.history (record { actor = actor; claim = claim }) → IsFindingOf core.ground.specs claim finding → IsTrueFinding core actor finding
 true_finding k f = record {

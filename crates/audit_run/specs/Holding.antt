@@ -1,6 +1,6 @@
 -- What actors hold between their calls.
-use Rattle.std.specs.Prelude.{◌≡◌, ℕ, ◌<◌, Bool, true, false, ◌&&◌, ◌==◌, List, [], ◌∷◌, ◌++◌, length, nat_lt, slice_index_or, Some}
-use Rattle.std.specs.List.{list_all, list_any}
+use Rattle.std.specs.Prelude.{◌≡◌, ℕ, ◌<◌, Bool, true, false, ◌&&◌, ◌==◌, List, [], ◌∷◌, ◌++◌, length, nat_lt, Option, Some, find}
+use Rattle.std.specs.List.{list_all, list_any, before_first, after_first}
 use Rattle.audit_model.specs.declared.specification.Specification.{Specification}
 use Rattle.audit_model.specs.Needs.{need}
 use Rattle.audit_model.specs.Verdicts.{verdict}
@@ -8,7 +8,7 @@ use Rattle.audit_model.specs.declared.step.StepRec.{StepRec}
 use Rattle.audit_model.specs.declared.step.Reply.{Reply}
 use Rattle.audit_model.specs.declared.step.Reply.TheVariants.{Began}
 use Rattle.audit_model.specs.History.{Ground, model_at, out, claim_numbered}
-use Rattle.model_view.specs.Views.{ClaimView, FindingView}
+use Rattle.model_view.specs.Views.{ClaimView, FindingView, SnapshotView}
 use Rattle.audit_run.specs.declared.hands.Begun.{Begun}
 use Rattle.audit_run.specs.declared.hands.Taken.{Taken}
 use Rattle.audit_core.specs.Steps.{given_of}
@@ -50,26 +50,37 @@ abbrev pub AreBegun : List StepRec → List Begun → Type 0
 AreBegun h [] = Unit {0}
 AreBegun h (b ∷ bs) = (has_begun h b.actor b.base.revision ≡ true) × AreBegun h bs
 
--- wherever these drafts were begun, the actor began one on this revision
-abbrev pub HasBase : ℕ → ℕ → List Begun → Type 0
-HasBase actor r bs = (h : List StepRec) → AreBegun h bs → has_begun h actor r ≡ true
+-- the list without the first element that passes
+abbrev pub without_first : {X : Type 0} → (X → Bool) → List X → List X
+without_first p xs = before_first p xs ++ after_first p xs
 
--- a draft of the actor's stands at this place, from 0
-pub record IsDraftAt (actor place : ℕ) (bs : List Begun) : Type 0 where
-  pub within : place < length bs
-  pub by : (d : Begun) → (slice_index_or bs place d).actor ≡ actor
+-- the draft of this actor on this snapshot
+abbrev pub begun_on : ℕ → SnapshotView → Begun
+begun_on actor base = record { actor = actor; base = base }
 
--- a claim of the actor's stands at this place, from 0
-pub record IsActorsAt (actor place : ℕ) (ts : List Taken) : Type 0 where
-  pub within : place < length ts
-  pub by : (d : Taken) → (slice_index_or ts place d).actor ≡ actor
+-- the claim as this actor holds it
+abbrev pub taken_as : ℕ → ClaimView → Taken
+taken_as actor claim = record { actor = actor; claim = claim }
 
--- this claim of the actor's was taken out of the list
-pub record IsTakenOut (actor : ℕ) (claim : ClaimView) (old new : List Taken) : Type 0 where
-  pub front : List Taken
-  pub back : List Taken
-  pub old_is : old ≡ front ++ record { actor = actor; claim = claim } ∷ back
-  pub new_is : new ≡ front ++ back
+abbrev pub drafted_by : ℕ → Begun → Bool
+drafted_by actor b = b.actor == actor
+
+abbrev pub taken_by : ℕ → Taken → Bool
+taken_by actor t = t.actor == actor
+
+-- the actor's draft among these, which is the first one, and the others
+abbrev pub draft_of : ℕ → List Begun → Option Begun
+draft_of actor bs = find (drafted_by actor) bs
+
+abbrev pub other_drafts : ℕ → List Begun → List Begun
+other_drafts actor bs = without_first (drafted_by actor) bs
+
+-- the first claim of the actor's among these, and the others
+abbrev pub claim_of : ℕ → List Taken → Option Taken
+claim_of actor ts = find (taken_by actor) ts
+
+abbrev pub other_claims : ℕ → List Taken → List Taken
+other_claims actor ts = without_first (taken_by actor) ts
 
 -- the verdict and needs of the claim's pair at its snapshot
 pub record IsFindingOf (specs : List Specification) (claim : ClaimView) (finding : FindingView) : Type 0 where

@@ -2,6 +2,7 @@ ghost use Rattle.std.specs.Prelude.{◌≡◌, [], ◌∷◌, ◌++◌, List, �
 ghost use Rattle.audit_model.specs.declared.specification.Specification.{Specification};
 ghost use Rattle.audit_model.specs.declared.step.Call.TheVariants as call;
 ghost use Rattle.audit_model.specs.Machine.{Legal};
+ghost use Rattle.audit_run.specs.Acts.{DoAll, Does};
 ghost use Rattle.audit_run.specs.Holding.{AreTaken, IsFindingOf, IsTaken};
 ghost use Rattle.audit_run.specs.Runs.{return_of, IsHolding, IsPlay, IsPlayed, reports};
 
@@ -54,7 +55,8 @@ pub trait Evaluate {
 /// Begins a draft.
 fn begin(core: &mut Core, hands: &mut Hands, actor: u32)
     requires { IsHolding core.old hands.old }
-    ensures { IsPlayed core.old core.new hands.new (record { actor = actor; act = Act.Begin }) [] }
+    ensures play { IsPlayed core.old core.new hands.new (record { actor = actor; act = Act.Begin }) [] }
+    ensures acts { Does core.old.ground actor Act.Begin core.old.history hands.old core.new.history hands.new }
 {
     if hands.drafts.reserve(1).is_err() {
         return;
@@ -68,7 +70,8 @@ fn begin(core: &mut Core, hands: &mut Hands, actor: u32)
 /// Commits these edits on the actor's draft, if it has one.
 fn commit(alloc: Global, core: &mut Core, hands: &mut Hands, actor: u32, edits: Edits)
     requires { IsHolding core.old hands.old }
-    ensures { IsPlayed core.old core.new hands.new (record { actor = actor; act = Act.Commit edits }) [] }
+    ensures play { IsPlayed core.old core.new hands.new (record { actor = actor; act = Act.Commit edits }) [] }
+    ensures acts { Does core.old.ground actor (Act.Commit edits) core.old.history hands.old core.new.history hands.new }
 {
     let Some(base) = take_base(&mut hands.drafts, actor) else {
         return;
@@ -84,7 +87,8 @@ fn commit(alloc: Global, core: &mut Core, hands: &mut Hands, actor: u32, edits: 
 /// Claims a pair.
 fn take(core: &mut Core, hands: &mut Hands, actor: u32)
     requires { IsHolding core.old hands.old }
-    ensures { IsPlayed core.old core.new hands.new (record { actor = actor; act = Act.Take }) [] }
+    ensures play { IsPlayed core.old core.new hands.new (record { actor = actor; act = Act.Take }) [] }
+    ensures acts { Does core.old.ground actor Act.Take core.old.history hands.old core.new.history hands.new }
 {
     if hands.claims.reserve(1).is_err() {
         return;
@@ -100,7 +104,8 @@ fn take(core: &mut Core, hands: &mut Hands, actor: u32)
 fn give<E: Evaluate>(alloc: Global, core: &mut Core, evaluator: &E, hands: &mut Hands, actor: u32)
     requires holding { IsHolding core.old hands.old }
     requires specs { E.specs evaluator.now ≡ core.old.ground.specs }
-    ensures { IsPlayed core.old core.new hands.new (record { actor = actor; act = Act.Give }) [] }
+    ensures play { IsPlayed core.old core.new hands.new (record { actor = actor; act = Act.Give }) [] }
+    ensures acts { Does core.old.ground actor Act.Give core.old.history hands.old core.new.history hands.new }
 {
     let Some(claim) = take_claim(&mut hands.claims, actor) else {
         return;
@@ -117,7 +122,8 @@ fn give<E: Evaluate>(alloc: Global, core: &mut Core, evaluator: &E, hands: &mut 
 /// Gives the first claim of the actor back, if it has one.
 fn give_back(core: &mut Core, hands: &mut Hands, actor: u32)
     requires { IsHolding core.old hands.old }
-    ensures { IsPlayed core.old core.new hands.new (record { actor = actor; act = Act.Return }) [] }
+    ensures play { IsPlayed core.old core.new hands.new (record { actor = actor; act = Act.Return }) [] }
+    ensures acts { Does core.old.ground actor Act.Return core.old.history hands.old core.new.history hands.new }
 {
     match take_claim(&mut hands.claims, actor) {
         Some(claim) => core.give_back(actor, claim),
@@ -128,8 +134,9 @@ fn give_back(core: &mut Core, hands: &mut Hands, actor: u32)
 /// Publishes, and adds the text of a report to these.
 fn publish(alloc: Global, core: &mut Core, hands: &Hands, actor: u32, texts: &mut Vec<ReportText>)
     requires { IsHolding core.old hands.now }
-    ensures { (told : List (List ℕ)) × ((texts.new.items ≡ texts.old.items ++ told)
+    ensures play { (told : List (List ℕ)) × ((texts.new.items ≡ texts.old.items ++ told)
         × IsPlayed core.old core.new hands.now (record { actor = actor; act = Act.Publish }) told) }
+    ensures acts { Does core.old.ground actor Act.Publish core.old.history hands.now core.new.history hands.now }
 {
     if texts.reserve(1).is_err() {
         return;
@@ -152,8 +159,9 @@ fn step<E: Evaluate>(
 )
     requires holding { IsHolding core.old hands.old }
     requires specs { E.specs evaluator.now ≡ core.old.ground.specs }
-    ensures { (told : List (List ℕ)) × ((texts.new.items ≡ texts.old.items ++ told)
+    ensures play { (told : List (List ℕ)) × ((texts.new.items ≡ texts.old.items ++ told)
         × IsPlayed core.old core.new hands.new asked told) }
+    ensures acts { Does core.old.ground asked.actor asked.act core.old.history hands.old core.new.history hands.new }
 {
     let Asked { actor, act } = asked;
     match act {
@@ -172,7 +180,8 @@ fn step<E: Evaluate>(
 /// The hands have to be of this core, and stay so. The journal is legal throughout, so that each reply
 /// is the one that the entries before it determine; its new entries are those of the calls, in their
 /// order and at most one for each; and the texts are, report by report and byte for byte, the audits
-/// from scratch of the revisions that the new entries name.
+/// from scratch of the revisions that the new entries name. `Give` and `Return` add an entry wherever
+/// their actor holds a claim, the first of which then ends.
 pub fn run<E: Evaluate>(
     alloc: Global,
     core: &mut Core,
@@ -182,7 +191,8 @@ pub fn run<E: Evaluate>(
 ) -> Vec<ReportText>
     requires holding { IsHolding core.old hands.old }
     requires specs { E.specs evaluator.now ≡ core.old.ground.specs }
-    ensures { IsPlay core.old core.new hands.new calls.items result.items }
+    ensures play { IsPlay core.old core.new hands.new calls.items result.items }
+    ensures acts { DoAll core.old.ground calls.items core.old.history hands.old core.new.history hands.new }
 {
     let mut texts = Vec::new(alloc);
     for asked in calls {

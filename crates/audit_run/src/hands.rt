@@ -1,6 +1,7 @@
-ghost use Rattle.std.specs.Prelude.{◌≡◌, List, ◌≤◌, [], vec_len, vec_capacity, MatchOption, IfSome};
-ghost use Rattle.audit_model.specs.declared.step.StepRec.{StepRec};
-ghost use Rattle.audit_run.specs.Holding.{AreBegun, HasBase, IsActorsAt, IsDraftAt, IsTakenOut};
+ghost use Rattle.std.specs.Prelude.{◌≡◌, ◌≤◌, [], vec_len, vec_capacity};
+ghost use Rattle.std.specs.List.{position};
+ghost use Rattle.std.specs.Option.{option_map};
+ghost use Rattle.audit_run.specs.Holding.{begun_on, claim_of, draft_of, drafted_by, taken_as, taken_by, other_claims, other_drafts};
 
 use model_view::{Claim, Snapshot};
 use std::alloc::Global;
@@ -50,44 +51,34 @@ impl Hands {
 }
 
 /// The place of the actor's first draft.
-fn draft_of(drafts: &[Begun], actor: u32) -> Option<usize>
-    ensures { IfSome result (λ place. IsDraftAt actor place drafts.now) }
+fn draft_place(drafts: &[Begun], actor: u32) -> Option<usize>
+    ensures { result ≡ position (drafted_by actor) drafts.now }
 {
-    for (place, begun) in drafts.iter().enumerate() {
-        if begun.actor == actor {
-            return Some(place);
-        }
-    }
-    None
+    drafts.iter().position(|begun| begun.actor == actor)
 }
 
 /// The place of the actor's first claim.
-fn claim_of(claims: &[Taken], actor: u32) -> Option<usize>
-    ensures { IfSome result (λ place. IsActorsAt actor place claims.now) }
+fn claim_place(claims: &[Taken], actor: u32) -> Option<usize>
+    ensures { result ≡ position (taken_by actor) claims.now }
 {
-    for (place, taken) in claims.iter().enumerate() {
-        if taken.actor == actor {
-            return Some(place);
-        }
-    }
-    None
+    claims.iter().position(|taken| taken.actor == actor)
 }
 
 /// Takes out the first draft of the actor.
 pub fn take_base(drafts: &mut Vec<Begun>, actor: u32) -> Option<Snapshot>
-    ensures rest { (h : List StepRec) → AreBegun h drafts.old.items → AreBegun h drafts.new.items }
-    ensures base { IfSome result (λ base. HasBase actor base.revision drafts.old.items) }
+    ensures first { option_map (begun_on actor) result ≡ draft_of actor drafts.old.items }
+    ensures others { drafts.new.items ≡ other_drafts actor drafts.old.items }
     ensures fewer { vec_len drafts.new ≤ vec_len drafts.old }
     ensures capacity { vec_capacity drafts.new ≡ vec_capacity drafts.old }
 {
-    let place = draft_of(drafts, actor)?;
+    let place = draft_place(drafts, actor)?;
     let Begun { actor: _, base } = drafts.remove(place);
     Some(base)
 }
 
 /// Ends the first draft of the actor, if it has one.
 pub fn end_draft(drafts: &mut Vec<Begun>, actor: u32)
-    ensures rest { (h : List StepRec) → AreBegun h drafts.old.items → AreBegun h drafts.new.items }
+    ensures others { drafts.new.items ≡ other_drafts actor drafts.old.items }
     ensures fewer { vec_len drafts.new ≤ vec_len drafts.old }
     ensures capacity { vec_capacity drafts.new ≡ vec_capacity drafts.old }
 {
@@ -96,10 +87,10 @@ pub fn end_draft(drafts: &mut Vec<Begun>, actor: u32)
 
 /// Takes out the first claim of the actor.
 pub fn take_claim(claims: &mut Vec<Taken>, actor: u32) -> Option<Claim>
-    ensures { MatchOption result (claims.new.items ≡ claims.old.items)
-        (λ claim. IsTakenOut actor claim claims.old.items claims.new.items) }
+    ensures first { option_map (taken_as actor) result ≡ claim_of actor claims.old.items }
+    ensures others { claims.new.items ≡ other_claims actor claims.old.items }
 {
-    let place = claim_of(claims, actor)?;
+    let place = claim_place(claims, actor)?;
     let Taken { actor: _, claim } = claims.remove(place);
     Some(claim)
 }

@@ -79,11 +79,12 @@ fn read_by<S: Shelf>(
 }
 
 /// Writes all of the bytes, in as many pieces as the sink takes. After `Failed` a part from their
-/// front was written and nothing behind it; no further write is tried. It takes no memory. `O(n)`, where
-/// the sink is called at most once for each byte.
+/// front was written, at least one byte less than all, and nothing behind it; no further write is tried,
+/// and none once all are written. It takes no memory. `O(n)`, where the sink is called at most once for
+/// each byte.
 pub fn write_all<K: Sink>(sink: &mut K, bytes: &[u8]) -> Result<(), Failed>
     ensures ok { OnOk result (Appended (K.written sink.old) (K.written sink.new) bytes.now) }
-    ensures err { OnErr result ((n : _)
+    ensures err { OnErr result ((n : _) × (n < length bytes.now)
         × Appended (K.written sink.old) (K.written sink.new) (take n bytes.now)) }
 
     // It fails only where the count rose, and the count rises only where it fails.

@@ -108,7 +108,7 @@ fn read_named(
 
 /// A read costs `O(f + n)` for `f` files and `n` bytes read.
 impl Shelf for MemShelf {
-    ghost use Rattle.std.specs.Prelude.{Some, IsErr, OnOk, IfSome};
+    ghost use Rattle.std.specs.Prelude.{ℕ, List, Some, IsErr, OnOk, IfSome};
     ghost use Rattle.shelf_io.specs.Causes.{HasCause};
     ghost use Rattle.shelf_io.specs.Pieces.{file_told, IsMissing};
     ghost use Rattle.shelf_io.specs.Held.{shelf_files, entries, shelf_faults, reads_well, read_first, readable, IsSteady};
@@ -127,8 +127,8 @@ impl Shelf for MemShelf {
         ensures missing { IsMissing (Some (entries self.old)) (chars name.now) → IsErr result }
         ensures cause { HasCause (shelf_faults self.old) (shelf_faults self.new) result }
         ensures calm { OnOk result (shelf_faults self.new ≡ shelf_faults self.old) }
-        ensures steady { IsSteady self.old → IsSteady self.new }
-        ensures sure { IsSteady self.old → IsErr result
+        ensures steady { (other : List ℕ) → IsSteady self.old other → IsSteady self.new other }
+        ensures sure { IsSteady self.old (chars name.now) → IsErr result
             → IsMissing (Some (entries self.old)) (chars name.now) }
 
         // Of this shelf is said besides which read fails, that it gives as much as there is room for, and

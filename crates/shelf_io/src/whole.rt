@@ -1,4 +1,4 @@
-ghost use Rattle.std.specs.Prelude.{◌≡◌, ◌≤◌, ◌<◌, ◌+◌, ℕ, length, take, IfOk, IfSome, IsErr, IsOk, OnOk, OnErr};
+ghost use Rattle.std.specs.Prelude.{◌≡◌, ◌≤◌, ◌<◌, ◌+◌, ℕ, List, length, take, IfOk, IfSome, IsErr, IsOk, OnOk, OnErr};
 ghost use Rattle.std.specs.Str.{chars};
 ghost use Rattle.ifc_base.specs.Refusals.{OnFault, UnlessFault};
 ghost use Rattle.shelf_io.specs.Causes.{Rose, HasCause};
@@ -34,8 +34,8 @@ pub fn read_all<S: Shelf>(
     ensures failed { OnFault result (λ _. Rose (S.faults shelf.old) (S.faults shelf.new)) }
     ensures calm { UnlessFault result (S.faults shelf.new ≡ S.faults shelf.old) }
 
-    ensures steady { S.steady shelf.old → S.steady shelf.new }
-    ensures sure { S.steady shelf.old
+    ensures steady { (other : List ℕ) → S.steady shelf.old other → S.steady shelf.new other }
+    ensures sure { S.steady shelf.old (chars name.now)
         → OnFault result (λ _. IsMissing (S.held shelf.old) (chars name.now)) }
 {
     let mut chunk = vec![in alloc; 0u8; CHUNK]?;
@@ -59,8 +59,8 @@ fn read_by<S: Shelf>(
     ensures later { S.faults shelf.old ≤ S.faults shelf.new }
     ensures failed { OnFault result (λ _. Rose (S.faults shelf.old) (S.faults shelf.new)) }
     ensures calm { UnlessFault result (S.faults shelf.new ≡ S.faults shelf.old) }
-    ensures steady { S.steady shelf.old → S.steady shelf.new }
-    ensures sure { S.steady shelf.old
+    ensures steady { (other : List ℕ) → S.steady shelf.old other → S.steady shelf.new other }
+    ensures sure { S.steady shelf.old (chars name.now)
         → OnFault result (λ _. IsMissing (S.held shelf.old) (chars name.now)) }
 {
     let mut bytes = Vec::new(alloc);

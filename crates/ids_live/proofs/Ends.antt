@@ -1,6 +1,6 @@
 -- The ends of a run.
 use Rattle.std.proofs.Common.{◌≡◌, ℕ, ◌+◌, reverse, List, [], ◌∷◌, ◌++◌, length, take, Bool, true, false, ◌&&◌, ◌||◌, ◌==◌, Option, Result, Ok, Err, ◌⊎◌, inl, inr, refl, ap, sym, subst, ◌∙◌, arith, rules}
-use Rattle.std.specs.Prelude.{◌≤◌, if◌then◌else◌, Some, None, IfSome, IfOk}
+use Rattle.std.specs.Prelude.{◌<◌, ◌≤◌, if◌then◌else◌, Some, None, IfSome, IfOk}
 use Rattle.std.specs.Bool.{OnTrue}
 use Rattle.std.proofs.lemmas.Bool.{eqb-true, lt-ltb}
 use Rattle.std.proofs.lemmas.List.{append-nil, reverse-reverse}
@@ -107,8 +107,8 @@ refused_end refused old new e none written status = record {
 }
 
 -- or a front of it
-pub refused_cut : (refused : Refused) (old new : Option (List ℕ)) (e : Ended) (n : ℕ) → e.journal ≡ [] → Appended old new (take n (refused_line refused)) → e.status ≡ 4 → IsEndOf (Err refused) old new e
-refused_cut refused old new e n none written status = record {
+pub refused_cut : (refused : Refused) (old new : Option (List ℕ)) (e : Ended) (n : ℕ) → e.journal ≡ [] → n < length (refused_line refused) → Appended old new (take n (refused_line refused)) → e.status ≡ 4 → IsEndOf (Err refused) old new e
+refused_cut refused old new e n none short written status = record {
   all_read = rw status tt;
   room = rw status tt;
   history = rw status tt;
@@ -120,7 +120,7 @@ refused_cut refused old new e n none written status = record {
   verdict = rw status tt;
   full = rw status tt;
   refusal = rw status tt;
-  sink = rw status (none, (n, written));
+  sink = rw status (none, (n, short, written));
   memory = rw status tt;
 }
 

@@ -1,3 +1,4 @@
 pub mod Completeness
 pub mod Ends
 pub mod Loads
+pub mod Telling

@@ -1,4 +1,4 @@
--- Which status a run has over inputs that the shelf tells, and where nothing outside fails.
+-- Which status a run has over inputs that the shelf tells, up to the first that is refused, and where nothing outside fails.
 use Rattle.std.specs.Prelude.{◌≡◌, ℕ, List, ◌∷◌, [], true, false, Result, Ok, Err, IsErr, IsTrue, MatchResult}
 use Rattle.ids_live.specs.declared.refused.Refused.{Refused}
 use Rattle.ids_live.specs.declared.load.Loaded.{Loaded}
@@ -29,7 +29,8 @@ unfoldable pub wanted : Result Loaded Refused → List ℕ
 wanted (Ok l) = output l (serial l)
 wanted (Err refused) = refused_line refused
 
--- Where the shelf is steady, it doesn't fail; where the sink is sure to take what is to be written, it doesn't fail. Then no count rises.
+-- Where the shelf is steady at the inputs, up to the first that is refused, it doesn't fail; where the sink is sure to take what is to be
+-- written, it doesn't fail. Then no count rises.
 pub record IsSure (steady sure shelf_calm sink_calm : Type 0) (status : ℕ) : Type 0 where
   pub reads : steady → shelf_calm × (status ≡ 3 → ⊥)
   pub writes : sure → sink_calm × (status ≡ 4 → ⊥)

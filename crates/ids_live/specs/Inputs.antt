@@ -1,8 +1,8 @@
 -- The four inputs: what the shelf holds of them, and what they read as.
-use Rattle.std.specs.Prelude.{◌≡◌, ℕ, ◌<◌, ◌≤◌, List, [], ◌∷◌, length, drop, nat_eq, Option, Some, None, Result, Ok, Err, IsOk, IfSome, if◌then◌else◌}
+use Rattle.std.specs.Prelude.{◌≡◌, ℕ, ◌<◌, ◌≤◌, List, [], ◌∷◌, length, drop, nat_eq, Option, Some, None, Result, Ok, Err, IsOk, MatchOption, ⊤, if◌then◌else◌}
 use Rattle.std.specs.List.{starts_with}
 use Rattle.std.specs.Str.{chars}
-use Rattle.shelf_io.specs.Pieces.{Files, file_told}
+use Rattle.shelf_io.specs.Pieces.{Files, file_named}
 use Rattle.ifc_base.specs.declared.value.Instance.{Instance}
 use Rattle.audit_model.specs.declared.specification.Specification.{Specification}
 use Rattle.audit_model.specs.declared.script.Phase.{Phase}
@@ -30,10 +30,15 @@ limit = 16777216
 abbrev pub model_limit : ℕ
 model_limit = 134217728
 
--- The shelf holds this input under the name, where it tells that.
+-- Where the shelf tells what it holds, it has a file of this name, and of its bytes this is so.
+abbrev pub HasFile : Option Files → List ℕ → (List ℕ → Type 0) → Type 0
+HasFile None name P = ⊤
+HasFile (Some files) name P = MatchOption (file_named name files) ⊥ P
+
+-- The shelf holds this input under the name, where it tells what it holds.
 abbrev pub IsHeld : Option Files → List ℕ → ℕ → Option (List ℕ) → Type 0
-IsHeld held name most (Some bytes) = (length bytes ≤ most) × IfSome (file_told held (chars name)) (λ all. all ≡ bytes)
-IsHeld held name most None = IfSome (file_told held (chars name)) (λ all. most < length all)
+IsHeld held name most (Some bytes) = (length bytes ≤ most) × HasFile held (chars name) (λ all. all ≡ bytes)
+IsHeld held name most None = HasFile held (chars name) (λ all. most < length all)
 
 -- ---- what the inputs read as
 
@@ -81,7 +86,7 @@ first_refusal (Ok schema) (Ok specs) (Ok model) (Ok script) = Ok (record { specs
 unfoldable pub loaded_of : Inputs → Result Loaded Refused
 loaded_of i = first_refusal (schema_read i.schema) (specs_read i.specs) (model_read i.model) (script_read i.script)
 
--- Each input is what the shelf holds under its name, where it tells that: up to the first that is refused.
+-- Each input, up to the first that is refused, is what the shelf holds under its name, where it tells what it holds.
 pub record AreHeld (held : Option Files) (command : Command) (i : Inputs) : Type 0 where
   pub schema : IsHeld held command.schema limit i.schema
   pub specs : IsOk (schema_read i.schema) → IsHeld held command.specs limit i.specs

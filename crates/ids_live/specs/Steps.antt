@@ -1,5 +1,5 @@
 -- The steps of a run over inputs that were read, and their text.
-use Rattle.std.specs.Prelude.{ℕ, Bool, List, take, Option}
+use Rattle.std.specs.Prelude.{ℕ, ◌<◌, Bool, List, length, take, Option}
 use Rattle.shelf_io.specs.Pieces.{Appended}
 use Rattle.audit_model.specs.declared.step.StepRec.{StepRec}
 use Rattle.audit_model.specs.History.{Ground}
@@ -34,6 +34,6 @@ status_at ending.Unwritten = 4
 status_at ending.Memory = 5
 status_at ending.Full = 7
 
--- A front of these bytes was written.
+-- A front of these bytes was written, at least one byte less than all.
 abbrev pub IsFrontWritten : Option (List ℕ) → Option (List ℕ) → List ℕ → Type 0
-IsFrontWritten old new bytes = (n : ℕ) × Appended old new (take n bytes)
+IsFrontWritten old new bytes = (n : ℕ) × (n < length bytes) × Appended old new (take n bytes)

@@ -1,5 +1,5 @@
 -- What a part of the run says where it stops.
-use Rattle.std.specs.Prelude.{◌≡◌, ℕ, ◌≤◌, Option, Result, Ok, Err, ⊤}
+use Rattle.std.specs.Prelude.{◌≡◌, ℕ, ◌≤◌, List, Option, Result, Ok, Err, ⊤}
 use Rattle.shelf_io.specs.Causes.{Rose}
 use Rattle.shelf_io.specs.Pieces.{Files}
 use Rattle.ids_live.specs.declared.refused.Refused.{Refused}
@@ -40,9 +40,9 @@ UnlessShelf (Err stop.Memory) fact = fact
 UnlessShelf (Err (stop.Refused refused)) fact = fact
 UnlessShelf (Ok value) fact = fact
 
--- The count of faults stands still unless the shelf was at fault. A steady shelf stays so, and is at fault only where it doesn't hold
--- what is asked for.
-pub record StaysSteady {V : Type 0} (steady after : Type 0) (before faults : ℕ) (missing : Type 0) (answer : Result V Stop) : Type 0 where
-  pub stays : steady → after
+-- The count of faults stands still unless the shelf was at fault. Where the shelf is steady it stays so, and where it was at fault there is
+-- this cause.
+pub record StaysSteady {V : Type 0} (steady after : List ℕ → Type 0) (before faults : ℕ) (cause : Type 0) (answer : Result V Stop) : Type 0 where
+  pub stays : (name : List ℕ) → steady name → after name
   pub calm : UnlessShelf answer (faults ≡ before)
-  pub sure : steady → OnShelf answer missing
+  pub sure : OnShelf answer cause

@@ -1,13 +1,14 @@
 //! The four inputs, read whole and then as their forms.
-ghost use Rattle.std.specs.Prelude.{◌≡◌, None, ◌<◌, ◌≤◌, length, IfOk, IfErr};
+ghost use Rattle.std.specs.Prelude.{◌≡◌, ◌<◌, ◌≤◌, length, IfOk, IfErr};
 ghost use Rattle.std.specs.Str.{chars};
 ghost use Rattle.audit_model.specs.Models.{HasDistinctIds};
 ghost use Rattle.audit_model.specs.ScriptOrder.{AreOrderly};
 ghost use Rattle.audit_model.specs.Specifications.{AreSpecifications};
+ghost use Rattle.shelf_io.specs.Pieces.{IsMissing};
 ghost use Rattle.ids_live.specs.Fitness.{IsFit};
 ghost use Rattle.ids_live.specs.Inputs.{Inputs, IsHeld, AreHeld, limit, model_limit, past_mark, schema_read, specs_read, model_read, script_read, loaded_of};
 ghost use Rattle.ids_live.specs.Stops.{Reads, LeavesShelf, StaysSteady, IsOutside};
-ghost use Rattle.ids_live.specs.Told.{input_told, inputs_told};
+ghost use Rattle.ids_live.specs.Told.{IsUnsteady};
 ghost use Rattle.ids_live.specs.Words.{command_shown};
 
 use crate::refused::{Input, Refused};
@@ -43,7 +44,7 @@ pub fn load<S: Shelf>(alloc: Global, shelf: &mut S, names: Names) -> Result<Load
     ensures shelf { LeavesShelf (S.held shelf.old) (S.held shelf.new) (S.faults shelf.old)
         (S.faults shelf.new) result }
     ensures steady { StaysSteady (S.steady shelf.old) (S.steady shelf.new) (S.faults shelf.old)
-        (S.faults shelf.new) (inputs_told (S.held shelf.old) (command_shown names.entry) ≡ None) result }
+        (S.faults shelf.new) (IsUnsteady (S.held shelf.old) (S.steady shelf.old) (command_shown names.entry)) result }
     ensures reads { Reads (AreHeld (S.held shelf.old) (command_shown names.entry)) loaded_of result }
     ensures fit { IfOk result IsFit }
 {
@@ -63,7 +64,7 @@ fn load_schema<S: Shelf>(alloc: Global, shelf: &mut S, name: &str) -> Result<(),
     ensures shelf { LeavesShelf (S.held shelf.old) (S.held shelf.new) (S.faults shelf.old)
         (S.faults shelf.new) result }
     ensures steady { StaysSteady (S.steady shelf.old) (S.steady shelf.new) (S.faults shelf.old)
-        (S.faults shelf.new) (input_told (S.held shelf.old) name.now limit ≡ None) result }
+        (S.faults shelf.new) (S.steady shelf.old (chars name.now) → IsMissing (S.held shelf.old) (chars name.now)) result }
     ensures reads { Reads (IsHeld (S.held shelf.old) name.now limit) schema_read result }
 {
     match whole_input(alloc, shelf, name, LIMIT)? {
@@ -76,7 +77,7 @@ fn load_specs<S: Shelf>(alloc: Global, shelf: &mut S, name: &str) -> Result<Spec
     ensures shelf { LeavesShelf (S.held shelf.old) (S.held shelf.new) (S.faults shelf.old)
         (S.faults shelf.new) result }
     ensures steady { StaysSteady (S.steady shelf.old) (S.steady shelf.new) (S.faults shelf.old)
-        (S.faults shelf.new) (input_told (S.held shelf.old) name.now limit ≡ None) result }
+        (S.faults shelf.new) (S.steady shelf.old (chars name.now) → IsMissing (S.held shelf.old) (chars name.now)) result }
     ensures reads { Reads (IsHeld (S.held shelf.old) name.now limit) specs_read result }
     ensures fit { IfOk result AreSpecifications }
 {
@@ -94,7 +95,7 @@ fn load_model<S: Shelf>(alloc: Global, shelf: &mut S, name: &str) -> Result<Inst
     ensures shelf { LeavesShelf (S.held shelf.old) (S.held shelf.new) (S.faults shelf.old)
         (S.faults shelf.new) result }
     ensures steady { StaysSteady (S.steady shelf.old) (S.steady shelf.new) (S.faults shelf.old)
-        (S.faults shelf.new) (input_told (S.held shelf.old) name.now model_limit ≡ None) result }
+        (S.faults shelf.new) (S.steady shelf.old (chars name.now) → IsMissing (S.held shelf.old) (chars name.now)) result }
     ensures reads { Reads (IsHeld (S.held shelf.old) name.now model_limit) model_read result }
     ensures distinct { IfOk result HasDistinctIds }
     ensures few { IfOk result (λ instances. length instances ≤ 2000000) }
@@ -113,7 +114,7 @@ fn load_script<S: Shelf>(alloc: Global, shelf: &mut S, name: &str) -> Result<Pha
     ensures shelf { LeavesShelf (S.held shelf.old) (S.held shelf.new) (S.faults shelf.old)
         (S.faults shelf.new) result }
     ensures steady { StaysSteady (S.steady shelf.old) (S.steady shelf.new) (S.faults shelf.old)
-        (S.faults shelf.new) (input_told (S.held shelf.old) name.now limit ≡ None) result }
+        (S.faults shelf.new) (S.steady shelf.old (chars name.now) → IsMissing (S.held shelf.old) (chars name.now)) result }
     ensures reads { Reads (IsHeld (S.held shelf.old) name.now limit) script_read result }
     ensures order { IfOk result (AreOrderly 1) }
 {
@@ -139,7 +140,7 @@ fn whole_input<S: Shelf>(
     ensures shelf { LeavesShelf (S.held shelf.old) (S.held shelf.new) (S.faults shelf.old)
         (S.faults shelf.new) result }
     ensures steady { StaysSteady (S.steady shelf.old) (S.steady shelf.new) (S.faults shelf.old)
-        (S.faults shelf.new) (input_told (S.held shelf.old) name.now most ≡ None) result }
+        (S.faults shelf.new) (S.steady shelf.old (chars name.now) → IsMissing (S.held shelf.old) (chars name.now)) result }
     ensures held { IfOk result (IsHeld (S.held shelf.old) name.now most) }
     ensures outside { IfErr result IsOutside }
 {

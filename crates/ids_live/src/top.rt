@@ -3,7 +3,7 @@ ghost use Rattle.shelf_io.specs.Causes.{Rose};
 ghost use Rattle.ids_live.specs.Inputs.{Inputs, AreHeld, loaded_of};
 ghost use Rattle.ids_live.specs.Run.{At, IsRun, IsUntouched, IsShelfAfter, IsSinkAfter};
 ghost use Rattle.ids_live.specs.Complete.{IsComplete, IsSure, wanted};
-ghost use Rattle.ids_live.specs.Told.{inputs_told};
+ghost use Rattle.ids_live.specs.Told.{AreTold, AreSteady, IsUnsteady};
 ghost use Rattle.ids_live.specs.Words.{command_of};
 
 use crate::ending::Ended;
@@ -35,12 +35,12 @@ pub fn run_serial<H: Shelf, O: Sink>(
     ensures early { At (3 ∷ 6 ∷ []) result.status (IsUntouched (O.written out.old) (O.written out.new) result) }
     ensures run { IfSome (command_of (map string_bytes words.now)) (λ command.
         (inputs : Inputs) × IsRun (H.held shelf.old) command (O.written out.old) (O.written out.new) result inputs) }
-    ensures complete { IfSome (command_of (map string_bytes words.now)) (λ command. IfSome (inputs_told
-        (H.held shelf.old) command) (λ inputs.
-        IsComplete (loaded_of inputs) (Rose (H.faults shelf.old) (H.faults shelf.new)) (Rose (O.faults out.old) (O.faults out.new)) result.status)) }
-    ensures sure { IfSome (command_of (map string_bytes words.now)) (λ command. IfSome (inputs_told
-        (H.held shelf.old) command) (λ inputs.
-        IsSure (H.steady shelf.old) (O.sure out.old (length (wanted (loaded_of inputs)))) (H.faults shelf.new ≡ H.faults shelf.old) (O.faults out.new ≡ O.faults out.old) result.status)) }
+    ensures complete { IfSome (command_of (map string_bytes words.now)) (λ command.
+        (inputs : Inputs) → AreTold (H.held shelf.old) command inputs →
+        IsComplete (loaded_of inputs) (Rose (H.faults shelf.old) (H.faults shelf.new)) (Rose (O.faults out.old) (O.faults out.new)) result.status) }
+    ensures sure { IfSome (command_of (map string_bytes words.now)) (λ command.
+        (inputs : Inputs) → AreTold (H.held shelf.old) command inputs →
+        IsSure (AreSteady (H.steady shelf.old) command inputs) (O.sure out.old (length (wanted (loaded_of inputs)))) (H.faults shelf.new ≡ H.faults shelf.old) (O.faults out.new ≡ O.faults out.old) result.status) }
     ensures lapsed { result.lapsed ≡ 0 }
 {
     run(alloc, words, shelf, out)
@@ -57,7 +57,7 @@ fn run<H: Shelf, O: Sink>(alloc: Global, words: &[String], shelf: &mut H, out: &
     ensures run { IfSome (command_of (map string_bytes words.now)) (λ command.
         (inputs : Inputs) × IsRun (H.held shelf.old) command (O.written out.old) (O.written out.new) result inputs) }
     ensures steady { IfSome (command_of (map string_bytes words.now)) (λ command. At (3 ∷ []) result.status
-        (H.steady shelf.old → inputs_told (H.held shelf.old) command ≡ None)) }
+        (IsUnsteady (H.held shelf.old) (H.steady shelf.old) command)) }
     ensures sure { IfSome (command_of (map string_bytes words.now)) (λ command. (inputs : Inputs)
         × At (4 ∷ []) result.status (AreHeld (H.held shelf.old) command inputs × (O.sure out.old (length (wanted (loaded_of inputs))) → ⊥))) }
     ensures lapsed { result.lapsed ≡ 0 }

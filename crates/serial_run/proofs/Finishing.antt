@@ -265,8 +265,8 @@ run_left {g = g} {all = all} {core = core} {old = old} {now = now} new p rest ra
       });
     }
 
-pub run_unwritten : {g : Ground} {all : List Phase} {core : CoreView} {old now : Option (List ℕ)} {before faults : ℕ} {was is : ℕ → Type 0} {passed : Bool} (new : CoreView) (written : Option (List ℕ)) (p : Phase) (rest : List Phase) (text : List ℕ) (count : ℕ) (ran : Ran) → OutputIsTold → (k : AreRunning g all (p ∷ rest) core old now before faults was is passed) → IsPhase (sync_run core.ground (lines_run core.ground p.lines k.run)) core new text → Appended now written (take count text) → ran.journal ≡ reverse new.history → ran.end ≡ ending.Unwritten → IsRan g all old written ran
-run_unwritten {g = g} {all = all} {core = core} {old = old} {now = now} new written p rest text count ran law k d w journal end_is =
+pub run_unwritten : {g : Ground} {all : List Phase} {core : CoreView} {old now : Option (List ℕ)} {before faults : ℕ} {was is : ℕ → Type 0} {passed : Bool} (new : CoreView) (written : Option (List ℕ)) (p : Phase) (rest : List Phase) (text : List ℕ) (count : ℕ) (ran : Ran) → OutputIsTold → (k : AreRunning g all (p ∷ rest) core old now before faults was is passed) → IsPhase (sync_run core.ground (lines_run core.ground p.lines k.run)) core new text → count < length text → Appended now written (take count text) → ran.journal ≡ reverse new.history → ran.end ≡ ending.Unwritten → IsRan g all old written ran
+run_unwritten {g = g} {all = all} {core = core} {old = old} {now = now} new written p rest text count ran law k d short w journal end_is =
     let run : Run = sync_run g (lines_run g p.lines k.run) in
     let at : AtRun run new free = subst (λ (x : Ground). AtRun (sync_run x (lines_run x p.lines k.run)) new free) k.ground d.reached.at in
     let a : Adds 1 core.history new.history = subst (λ (h : List StepRec). Adds 1 core.history h) at.history (phase_adds p rest k) in
@@ -288,6 +288,7 @@ run_unwritten {g = g} {all = all} {core = core} {old = old} {now = now} new writ
         last = text;
         split = output_of g new.history ran.journal law journal legal (a.alone k.alone) ∙ grown ∙ ap (λ (xs : List ℕ). xs ++ text) (sym early);
         count = count;
+        short = short;
         written = rw early (appended_both old now written (told g core.history).whole (take count text) k.written w);
       });
     }

@@ -1,5 +1,5 @@
 -- What a whole run of a script leaves. Histories stand here with the newest entry first, journals with the oldest first.
-use Rattle.std.specs.Prelude.{◌≡◌, ◌==◌, ℕ, ◌+◌, ◌-◌, ◌≤◌, Bool, true, false, List, [], ◌∷◌, ◌++◌, take, drop, length, reverse, codes, if◌then◌else◌, Option}
+use Rattle.std.specs.Prelude.{◌≡◌, ◌==◌, ℕ, ◌+◌, ◌-◌, ◌<◌, ◌≤◌, Bool, true, false, List, [], ◌∷◌, ◌++◌, take, drop, length, reverse, codes, if◌then◌else◌, Option}
 use Rattle.std.specs.Str.{bytes_eq}
 use Rattle.shelf_io.specs.Causes.{Rose}
 use Rattle.shelf_io.specs.Pieces.{Appended}
@@ -41,7 +41,7 @@ pub record IsCut (g : Ground) (phases : List Phase) (journal : List StepRec) : T
   pub back : reverse journal ≡ returned front
 
 -- The sink failed in the text of the last phase, which is whole, with no claim out: that of all earlier phases was written, and a front
--- of its own.
+-- of its own, at least one byte less than the whole.
 pub record IsUnwritten (g : Ground) (phases : List Phase) (old new : Option (List ℕ)) (journal : List StepRec) : Type 0 where
   pub within : IsLater (reverse journal) (script_history g phases)
   pub early : List StepRec
@@ -52,6 +52,7 @@ pub record IsUnwritten (g : Ground) (phases : List Phase) (old new : Option (Lis
   pub last : List ℕ
   pub split : output g journal ≡ output g (reverse early) ++ last
   pub count : ℕ
+  pub short : count < length last
   pub written : Appended old new (output g (reverse early) ++ take count last)
 
 -- Before a call that would be answered Full the script has come to its end. The text of the whole phases was written.

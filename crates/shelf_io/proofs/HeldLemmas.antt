@@ -1,6 +1,6 @@
 -- The first file of a name: what is held under the name, which of its reads go well, and what a read leaves.
 use Rattle.std.proofs.Common.{◌≡◌, ℕ, zero, suc, ◌+◌, ◌<◌, true, false, Bool, ◌||◌, not, if◌then◌else◌, List, [], ◌∷◌, map, length, take, set, get_or, refl, ap, sym, ◌∙◌, add-one, arith}
-use Rattle.std.specs.Prelude.{Option, Some, None, All}
+use Rattle.std.specs.Prelude.{Option, Some, None, IfSome}
 use Rattle.std.specs.List.{list_any}
 use Rattle.std.specs.Option.{option_map, option_map_or}
 use Rattle.shelf_io.specs.declared.mem_shelf.ShelfFile.{ShelfFile}
@@ -64,37 +64,39 @@ no_bytes (Some file) e = absurd (cc)
 pub missing_fails : (name : List ℕ) (files : List ShelfFile) → file_named name (map entry_of files) ≡ None → reads_well name files ≡ false
 missing_fails name files missing = no_bytes (first_named name files) (sym (told_of_first name files) ∙ missing)
 
--- what is so of all files is so of the first and of the others
-head_of : (P : ShelfFile → Type 0) (file : ShelfFile) (files : List ShelfFile) → All P (file ∷ files) → P file
-head_of P file files all = all 0 file (omega arith)
+no_file : (o : Option ShelfFile) → IfSome o IsSteadyFile → option_map_or (λ file. not (fails_next file)) o false ≡ false → option_map (λ file. file.bytes) o ≡ None
+no_file None steady fails = refl
+no_file (Some file) steady fails = let behind = not_listed file.failing (next_count file.reads) steady in absurd (cc)
 
-rest_of : (P : ShelfFile → Type 0) (file : ShelfFile) (files : List ShelfFile) → All P (file ∷ files) → All P files
-rest_of P file files all k d within = all (suc k) d (omega (arith, within))
-
-joined : (P : ShelfFile → Type 0) (file : ShelfFile) (files : List ShelfFile) → P file → All P files → All P (file ∷ files)
-joined P file files first others zero d within = first
-joined P file files first others (suc k) d within = others k d (omega (arith, within))
-
--- of a steady shelf only the read of a missing file fails
-pub steady_misses : (name : List ℕ) (files : List ShelfFile) → All IsSteadyFile files → reads_well name files ≡ false → file_named name (map entry_of files) ≡ None
-steady_misses name [] steady fails = refl
-steady_misses name (file ∷ files) steady fails = (elim (has_name name file) as
-    (λ b. option_map_or (λ f. not (fails_next f)) (if b then Some file else first_named name files) false ≡ false
-    → (if b then Some file.bytes else file_named name (map entry_of files)) ≡ None) [
-      | true ↦ λ e. let behind = not_listed file.failing (next_count file.reads) (head_of IsSteadyFile file files steady) in absurd (cc)
-      | false ↦ steady_misses name files (rest_of IsSteadyFile file files steady)
-    ]) fails
+-- of a steady file no read fails: there is none of the name
+pub steady_misses : (name : List ℕ) (files : List ShelfFile) → IfSome (first_named name files) IsSteadyFile → reads_well name files ≡ false → file_named name (map entry_of files) ≡ None
+steady_misses name files steady fails = told_of_first name files ∙ no_file (first_named name files) steady fails
 
 steady_once : (file : ShelfFile) → IsSteadyFile file → IsSteadyFile (read_once file)
 steady_once file steady k d within = let below = steady k d within in omega (arith, below)
 
--- a steady shelf stays steady
-pub steady_stays : (name : List ℕ) (files : List ShelfFile) → All IsSteadyFile files → All IsSteadyFile (read_first name files)
-steady_stays name [] steady = steady
-steady_stays name (file ∷ files) steady = elim (has_name name file) as
-    (λ b. All IsSteadyFile (if b then read_once file ∷ files else file ∷ read_first name files)) [
-      | true ↦ joined IsSteadyFile (read_once file) files (steady_once file (head_of IsSteadyFile file files steady)) (rest_of IsSteadyFile file files steady)
-      | false ↦ joined IsSteadyFile file (read_first name files) (head_of IsSteadyFile file files steady) (steady_stays name files (rest_of IsSteadyFile file files steady))
+read_there : (other : List ℕ) (file : ShelfFile) (files : List ShelfFile) → IfSome (first_named other (file ∷ files)) IsSteadyFile → IfSome (first_named other (read_once file ∷ files)) IsSteadyFile
+read_there other file files = elim (has_name other file) as
+    (λ b. IfSome (if b then Some file else first_named other files) IsSteadyFile → IfSome (if b then Some (read_once file) else first_named other files) IsSteadyFile) [
+      | true ↦ steady_once file
+      | false ↦ λ steady. steady
+    ]
+
+read_behind : (name other : List ℕ) (file : ShelfFile) (files : List ShelfFile) → (IfSome (first_named other files) IsSteadyFile → IfSome (first_named other (read_first name files)) IsSteadyFile)
+    → IfSome (first_named other (file ∷ files)) IsSteadyFile → IfSome (first_named other (file ∷ read_first name files)) IsSteadyFile
+read_behind name other file files rest = elim (has_name other file) as
+    (λ b. IfSome (if b then Some file else first_named other files) IsSteadyFile → IfSome (if b then Some file else first_named other (read_first name files)) IsSteadyFile) [
+      | true ↦ λ steady. steady
+      | false ↦ rest
+    ]
+
+-- a file that is steady stays so at a read of any name
+pub steady_stays : (name other : List ℕ) (files : List ShelfFile) → IfSome (first_named other files) IsSteadyFile → IfSome (first_named other (read_first name files)) IsSteadyFile
+steady_stays name other [] = λ steady. steady
+steady_stays name other (file ∷ files) = elim (has_name name file) as
+    (λ b. IfSome (first_named other (file ∷ files)) IsSteadyFile → IfSome (first_named other (if b then read_once file ∷ files else file ∷ read_first name files)) IsSteadyFile) [
+      | true ↦ read_there other file files
+      | false ↦ read_behind name other file files (steady_stays name other files)
     ]
 
 -- one more that fails a test behind some that do

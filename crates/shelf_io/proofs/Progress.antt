@@ -8,14 +8,14 @@ use Rattle.std.proofs.lemmas.Grind.{common_steps}
 use Rattle.shelf_io.specs.Pieces.{Files, file_told, IsMissing, IsPiece, IsFront, Appended}
 
 -- the bytes are the front of what the shelf tells, which stays; no read has failed, none of a missing file
--- has gone well, and a steady shelf has stayed steady
-pub record HasRead (held now : Option Files) (name bytes : List ℕ) (most before faults : ℕ) (was is : Type 0) : Type 0 where
+-- has gone well, and the shelf has stayed steady where it was
+pub record HasRead (held now : Option Files) (name bytes : List ℕ) (most before faults : ℕ) (was is : List ℕ → Type 0) : Type 0 where
   pub same : now ≡ held
   pub bound : length bytes ≤ most
   pub front : ForSome (file_told held name) (λ all. IsFront bytes all)
   pub missing : IsMissing held name → length bytes ≡ 0
   pub calm : faults ≡ before
-  pub steady : was → is
+  pub steady : (other : List ℕ) → was other → is other
 
 pub IfSome-from_ForSome : {X : Type 0} (o : Option X) (P : X → Type 0) → ForSome o P → IfSome o P
 IfSome-from_ForSome None P h = tt

@@ -1,5 +1,5 @@
 -- What the shelf in memory holds, and which of its reads fail.
-use Rattle.std.specs.Prelude.{◌≡◌, ℕ, ◌-◌, ◌<◌, ◌==◌, Bool, true, false, not, List, [], ◌∷◌, length, min, take, map, Option, Some, None, All, if◌then◌else◌, slice_index_or}
+use Rattle.std.specs.Prelude.{◌≡◌, ℕ, ◌-◌, ◌<◌, ◌==◌, Bool, true, false, not, List, [], ◌∷◌, length, min, take, map, Option, Some, None, All, IfSome, if◌then◌else◌, slice_index_or}
 use Rattle.std.specs.List.{list_any}
 use Rattle.std.specs.Option.{option_map_or}
 use Rattle.std.specs.Str.{bytes_eq}
@@ -64,6 +64,6 @@ reads_well name files = option_map_or (λ file. not (fails_next file)) (first_na
 abbrev pub IsSteadyFile : ShelfFile → Type 0
 IsSteadyFile file = All (λ n. n < next_count file.reads) file.failing
 
--- No read of a file of the shelf fails from now on.
-abbrev pub IsSteady : MemShelf → Type 0
-IsSteady shelf = All IsSteadyFile shelf.files.items
+-- No read of the file of this name fails from now on, if there is one.
+abbrev pub IsSteady : MemShelf → List ℕ → Type 0
+IsSteady shelf name = IfSome (first_named name shelf.files.items) IsSteadyFile

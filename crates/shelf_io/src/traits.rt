@@ -10,7 +10,7 @@ pub struct Failed;
 /// Files by name, of which the bytes can be read in pieces.
 ///
 /// A shelf says what it holds, or `None` where it doesn't tell; how many faults it has had, at most
-/// 2^64 - 1; and whether it is steady, which a shelf that promises nothing leaves at its default.
+/// 2^64 - 1; and at which names it is steady, which a shelf that promises nothing leaves at its default.
 pub trait Shelf {
     /// What the shelf holds, where it tells.
     ghost held: { Self → Option Files };
@@ -18,8 +18,8 @@ pub trait Shelf {
     /// How often it has failed.
     ghost faults: { Self → ℕ };
 
-    /// From now on no read fails but that of a file which the shelf tells that it doesn't hold.
-    ghost steady: { Self → Type 0 } = { λ _. ⊥ };
+    /// From now on no read of this name fails, unless the shelf tells that it holds no file of the name.
+    ghost steady: { Self → List ℕ → Type 0 } = { λ _ _. ⊥ };
 
     /// Reads from the file of this name, from the place `from` on (0 is its first byte), into the front
     /// of the buffer, and answers how many bytes it read; 0 for a buffer with room is the end of the
@@ -32,12 +32,13 @@ pub trait Shelf {
             (λ bytes. IsPiece bytes from n into.new)) }
         ensures missing { IsMissing (held self.old) (chars name.now) → IsErr result }
 
-        // It fails only where the count rose, and the count rises only where it fails.
+        // Where it fails it counts one fault, and else none.
         ensures cause { HasCause (faults self.old) (faults self.new) result }
         ensures calm { OnOk result (faults self.new ≡ faults self.old) }
 
-        ensures steady { steady self.old → steady self.new }
-        ensures sure { steady self.old → IsErr result → IsMissing (held self.old) (chars name.now) };
+        ensures steady { (other : List ℕ) → steady self.old other → steady self.new other }
+        ensures sure { steady self.old (chars name.now) → IsErr result
+            → IsMissing (held self.old) (chars name.now) };
 }
 
 /// Where bytes are written, in order.
@@ -64,7 +65,7 @@ pub trait Sink {
             (λ n. Appended (written self.old) (written self.new) (take n bytes.now))
             (λ _. written self.new ≡ written self.old) }
 
-        // It fails only where the count rose, and the count rises only where it fails.
+        // Where it fails it counts one fault, and else none.
         ensures cause { HasCause (faults self.old) (faults self.new) result }
         ensures calm { OnOk result (faults self.new ≡ faults self.old) }
 

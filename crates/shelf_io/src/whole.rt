@@ -1,4 +1,4 @@
-ghost use Rattle.std.specs.Prelude.{◌≡◌, ◌≤◌, ◌<◌, ◌+◌, ℕ, length, take, IfOk, IfSome, IsErr, IsOk, OnOk, OnErr};
+ghost use Rattle.std.specs.Prelude.{◌≡◌, ◌≤◌, ◌<◌, ◌+◌, ℕ, List, length, take, IfOk, IfSome, IsErr, IsOk, OnOk, OnErr};
 ghost use Rattle.std.specs.Str.{chars};
 ghost use Rattle.ifc_base.specs.Refusals.{OnFault, UnlessFault};
 ghost use Rattle.shelf_io.specs.Causes.{Rose, HasCause};
@@ -29,13 +29,13 @@ pub fn read_all<S: Shelf>(
         (λ all. bytes ≡ take most all)) }
     ensures missing { 0 < most → IsMissing (S.held shelf.old) (chars name.now) → IsErr result }
 
-    // A fault comes only where the count rose, and the count rises only at a fault.
+    // A fault comes only where one was counted, and none is counted else.
     ensures later { S.faults shelf.old ≤ S.faults shelf.new }
     ensures failed { OnFault result (λ _. Rose (S.faults shelf.old) (S.faults shelf.new)) }
     ensures calm { UnlessFault result (S.faults shelf.new ≡ S.faults shelf.old) }
 
-    ensures steady { S.steady shelf.old → S.steady shelf.new }
-    ensures sure { S.steady shelf.old
+    ensures steady { (other : List ℕ) → S.steady shelf.old other → S.steady shelf.new other }
+    ensures sure { S.steady shelf.old (chars name.now)
         → OnFault result (λ _. IsMissing (S.held shelf.old) (chars name.now)) }
 {
     let mut chunk = vec![in alloc; 0u8; CHUNK]?;
@@ -59,8 +59,8 @@ fn read_by<S: Shelf>(
     ensures later { S.faults shelf.old ≤ S.faults shelf.new }
     ensures failed { OnFault result (λ _. Rose (S.faults shelf.old) (S.faults shelf.new)) }
     ensures calm { UnlessFault result (S.faults shelf.new ≡ S.faults shelf.old) }
-    ensures steady { S.steady shelf.old → S.steady shelf.new }
-    ensures sure { S.steady shelf.old
+    ensures steady { (other : List ℕ) → S.steady shelf.old other → S.steady shelf.new other }
+    ensures sure { S.steady shelf.old (chars name.now)
         → OnFault result (λ _. IsMissing (S.held shelf.old) (chars name.now)) }
 {
     let mut bytes = Vec::new(alloc);
@@ -79,14 +79,15 @@ fn read_by<S: Shelf>(
 }
 
 /// Writes all of the bytes, in as many pieces as the sink takes. After `Failed` a part from their
-/// front was written and nothing behind it; no further write is tried. It takes no memory. `O(n)`, where
-/// the sink is called at most once for each byte.
+/// front was written, at least one byte less than all, and nothing behind it; no further write is tried,
+/// and none once all are written. It takes no memory. `O(n)`, where the sink is called at most once for
+/// each byte.
 pub fn write_all<K: Sink>(sink: &mut K, bytes: &[u8]) -> Result<(), Failed>
     ensures ok { OnOk result (Appended (K.written sink.old) (K.written sink.new) bytes.now) }
-    ensures err { OnErr result ((n : _)
+    ensures err { OnErr result ((n : _) × (n < length bytes.now)
         × Appended (K.written sink.old) (K.written sink.new) (take n bytes.now)) }
 
-    // It fails only where the count rose, and the count rises only where it fails.
+    // Where it fails one fault was counted, and else none.
     ensures cause { HasCause (K.faults sink.old) (K.faults sink.new) result }
     ensures calm { OnOk result (K.faults sink.new ≡ K.faults sink.old) }
 

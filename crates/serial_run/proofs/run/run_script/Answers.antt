@@ -23,8 +23,9 @@ returns-in-Err-Memory-clause-ran g c =
 pub returns-in-Err-clause-ran : goal.returns-in-Err-clause-ran
 returns-in-Err-clause-ran g c =
     let k = next_phase c.loop-next.rest.items c.pop.new.self.items c.in-Some.next c.in-Some.ensures.items c.loop-next.invariant in
-    let w = rw c.as_slice.ensures at c.in-Err.ensures.err.1 in
-    run_unwritten c.phase.new.core (g.K.Sink.written c.write_all.new.sink) c.in-Some.next (reverse c.pop.new.self.items) c.in-Ok.text c.in-Err.ensures.err.0 c.ended-in-Err.result c.output_is_told.ensures k (c.in-Ok.ensures k.run k.at) w c.ended-in-Err.ensures.journal c.ended-in-Err.ensures.end
+    let short = rw c.as_slice.ensures at c.in-Err.ensures.err.1 in
+    let w = rw c.as_slice.ensures at c.in-Err.ensures.err.2 in
+    run_unwritten c.phase.new.core (g.K.Sink.written c.write_all.new.sink) c.in-Some.next (reverse c.pop.new.self.items) c.in-Ok.text c.in-Err.ensures.err.0 c.ended-in-Err.result c.output_is_told.ensures k (c.in-Ok.ensures k.run k.at) short w c.ended-in-Err.ensures.journal c.ended-in-Err.ensures.end
 
 pub returns-in-Err-clause-sure : goal.returns-in-Err-clause-sure
 returns-in-Err-clause-sure g c =

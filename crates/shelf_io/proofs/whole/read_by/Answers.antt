@@ -15,7 +15,7 @@ loop-bytes-preserved g c = record {
       (c.loop-bytes.invariant.front all e) piece (search rules) c.in-Ok.ensures.bound c.in_ok-extend_from_slice.ensures.items;
   missing = λ m. let failed = c.in-Ok.ensures.missing (missing_stays _ _ _ c.loop-bytes.invariant.same m) in absurd (cc);
   calm = search rules;
-  steady = λ h. c.in-Ok.ensures.steady (c.loop-bytes.invariant.steady h);
+  steady = λ other h. c.in-Ok.ensures.steady other (c.loop-bytes.invariant.steady other h);
 }
 
 pub returns-clause-bytes : goal.returns-clause-bytes

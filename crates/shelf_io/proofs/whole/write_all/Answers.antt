@@ -1,4 +1,5 @@
 use Rattle.std.proofs.Common.{rules}
+use Rattle.std.proofs.lemmas.Result.{err_from_is_err_and}
 use Rattle.shelf_io.proofs.Progress.{write_step, less_sure, rest_sure}
 use Rattle.shelf_io.proofs.whole.write_all.Goals as goal
 
@@ -10,6 +11,11 @@ loop-at-preserved g c = record {
   left = less_sure (g.K.Sink.sure c.args.sink.now) (g.K.Sink.sure c.loop-at.sink) (g.K.Sink.sure c.write.new.self)
       c.loop-at.at c.in_ok-at.field-0 c.loop-at.invariant.left c.in_ok-at.ensures.left;
 }
+
+pub returns-in_err-at-clause-err : goal.returns-in_err-at-clause-err
+returns-in_err-at-clause-err g c =
+    let p = err_from_is_err_and c.from_residual.result c.from_residual.ensures.1 in
+    rw p.1 (c.loop-at.at, search rules, search rules)
 
 pub returns-in_err-at-clause-sure : goal.returns-in_err-at-clause-sure
 returns-in_err-at-clause-sure g c more sure =

@@ -13,9 +13,9 @@ returns-then-is_err-clause-held c =
     ap Some (ap (map entry_of) counted ∙ same_entries (chars c.args.name.now) c.args.self.now.files.items)
 
 pub returns-then-is_err-clause-steady : goal.returns-then-is_err-clause-steady
-returns-then-is_err-clause-steady c steady =
+returns-then-is_err-clause-steady c other steady =
     let counted : (with_items c.args.self.now.files c.read_named-answer.new.files).items ≡ read_first (chars c.args.name.now) c.args.self.now.files.items = grind (arith, common_steps) in
-    rw counted (steady_stays (chars c.args.name.now) c.args.self.now.files.items steady)
+    rw counted (steady_stays (chars c.args.name.now) other c.args.self.now.files.items steady)
 
 pub returns-then-is_err-clause-sure : goal.returns-then-is_err-clause-sure
 returns-then-is_err-clause-sure c steady failed =
@@ -32,6 +32,6 @@ returns-else-is_err-clause-missing c missing =
     let fails = missing_fails (chars c.args.name.now) c.args.self.now.files.items missing in grind (arith, common_steps)
 
 pub returns-else-is_err-clause-steady : goal.returns-else-is_err-clause-steady
-returns-else-is_err-clause-steady c steady =
+returns-else-is_err-clause-steady c other steady =
     let counted : (with_items c.args.self.now.files c.read_named-answer.new.files).items ≡ read_first (chars c.args.name.now) c.args.self.now.files.items = grind (arith, common_steps) in
-    rw counted (steady_stays (chars c.args.name.now) c.args.self.now.files.items steady)
+    rw counted (steady_stays (chars c.args.name.now) other c.args.self.now.files.items steady)

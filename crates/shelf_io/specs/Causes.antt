@@ -1,5 +1,5 @@
 -- Counts of faults and of calls: the next number, when a count rose, and what a call's failure says of it.
-use Rattle.std.specs.Prelude.{◌≡◌, ℕ, ◌+◌, ◌-◌, ◌^◌, ◌≤◌, min, Result, OnErr}
+use Rattle.std.specs.Prelude.{ℕ, ◌+◌, ◌-◌, ◌^◌, ◌≤◌, min, Result, OnErr}
 
 -- the last value of a count
 abbrev pub last_count : ℕ
@@ -9,11 +9,11 @@ last_count = 2 ^ 64 - 1
 abbrev pub next_count : ℕ → ℕ
 next_count count = min (count + 1) last_count
 
--- One was counted: the count is one more than before, or stands at its last value.
+-- The count is greater than before, or stands at its last value.
 abbrev pub Rose : ℕ → ℕ → Type 0
-Rose before now = now ≡ next_count before
+Rose before now = min (before + 1) last_count ≤ now
 
--- A count never falls, and a call that failed counts one.
+-- A count never falls, and has risen where the call failed.
 pub record HasCause {T E : Type 0} (before now : ℕ) (result : Result T E) : Type 0 where
   pub later : before ≤ now
   pub failed : OnErr result (Rose before now)

@@ -108,8 +108,8 @@ fn read_named(
 
 /// A read costs `O(f + n)` for `f` files and `n` bytes read.
 impl Shelf for MemShelf {
-    ghost use Rattle.std.specs.Prelude.{ℕ, List, Some, IsErr, OnOk, IfSome};
-    ghost use Rattle.shelf_io.specs.Causes.{HasCause};
+    ghost use Rattle.std.specs.Prelude.{ℕ, List, Some, IsErr, OnOk, OnErr, IfSome};
+    ghost use Rattle.shelf_io.specs.Causes.{HasCause, next_count};
     ghost use Rattle.shelf_io.specs.Pieces.{file_told, IsMissing};
     ghost use Rattle.shelf_io.specs.Held.{shelf_files, entries, shelf_faults, reads_well, read_first, readable, IsSteady};
 
@@ -132,11 +132,12 @@ impl Shelf for MemShelf {
             → IsMissing (Some (entries self.old)) (chars name.now) }
 
         // Of this shelf is said besides which read fails, that it gives as much as there is room for, and
-        // that it counts the reads.
+        // that it counts the reads, and the faults one by one.
         ensures answer { is_ok result ≡ reads_well (chars name.now) (shelf_files self.old) }
         ensures counted { shelf_files self.new ≡ read_first (chars name.now) (shelf_files self.old) }
         ensures full { IfOk result (λ n. IfSome (file_named (chars name.now) (entries self.old))
             (λ bytes. n ≡ readable bytes from (length into.old))) }
+        ensures once { OnErr result (shelf_faults self.new ≡ next_count (shelf_faults self.old)) }
     {
         let answer = read_named(self.files.as_mut_slice(), name, from, into);
         if answer.is_err() {

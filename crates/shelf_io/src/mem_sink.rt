@@ -78,7 +78,7 @@ pub(crate) fn is_listed(numbers: &[u32], number: u64) -> bool
 
 /// A write costs `O(n)` for `n` bytes taken.
 impl Sink for MemSink {
-    ghost use Rattle.std.specs.Prelude.{◌≡◌, ◌+◌, ℕ, Some, not, length, take, IfOk, IsOk, OnOk, MatchResult};
+    ghost use Rattle.std.specs.Prelude.{◌≡◌, ◌+◌, ℕ, Some, not, length, take, IfOk, IsOk, OnOk, OnErr, MatchResult};
     ghost use Rattle.std.specs.Result.{is_ok};
     ghost use Rattle.shelf_io.specs.Causes.{HasCause, next_count};
     ghost use Rattle.shelf_io.specs.Pieces.{IsTaken, Appended};
@@ -100,7 +100,8 @@ impl Sink for MemSink {
         ensures sure { (more : ℕ) → IsSure self.old (length bytes.now + more) → IsOk result }
         ensures left { IfOk result (λ n. (more : ℕ) → IsSure self.old (n + more) → IsSure self.new more) }
 
-        // Of this sink is said besides which call fails, how much it takes, and that it counts the calls.
+        // Of this sink is said besides which call fails, how much it takes, and that it counts the calls,
+        // and the faults one by one.
         ensures answer { is_ok result ≡ not (fails_on self.old (length bytes.now)) }
         ensures share { IfOk result (λ n. n ≡ share_of self.old (length bytes.now)) }
         ensures counted { self.new ≡ record self.old {
@@ -108,6 +109,7 @@ impl Sink for MemSink {
           calls = next_count self.old.calls;
           faults = self.new.faults;
         } }
+        ensures once { OnErr result (self.new.faults ≡ next_count self.old.faults) }
     {
         self.calls = self.calls.saturating_add(1);
         let left = self.room - self.bytes.len();

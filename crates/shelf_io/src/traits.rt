@@ -32,7 +32,7 @@ pub trait Shelf {
             (λ bytes. IsPiece bytes from n into.new)) }
         ensures missing { IsMissing (held self.old) (chars name.now) → IsErr result }
 
-        // Where it fails it counts one fault, and else none.
+        // It fails only where the count rose, and the count rises only where it fails.
         ensures cause { HasCause (faults self.old) (faults self.new) result }
         ensures calm { OnOk result (faults self.new ≡ faults self.old) }
 
@@ -65,7 +65,7 @@ pub trait Sink {
             (λ n. Appended (written self.old) (written self.new) (take n bytes.now))
             (λ _. written self.new ≡ written self.old) }
 
-        // Where it fails it counts one fault, and else none.
+        // It fails only where the count rose, and the count rises only where it fails.
         ensures cause { HasCause (faults self.old) (faults self.new) result }
         ensures calm { OnOk result (faults self.new ≡ faults self.old) }
 

@@ -29,7 +29,7 @@ pub fn read_all<S: Shelf>(
         (λ all. bytes ≡ take most all)) }
     ensures missing { 0 < most → IsMissing (S.held shelf.old) (chars name.now) → IsErr result }
 
-    // A fault comes only where one was counted, and none is counted else.
+    // A fault comes only where the count rose, and the count rises only at a fault.
     ensures later { S.faults shelf.old ≤ S.faults shelf.new }
     ensures failed { OnFault result (λ _. Rose (S.faults shelf.old) (S.faults shelf.new)) }
     ensures calm { UnlessFault result (S.faults shelf.new ≡ S.faults shelf.old) }
@@ -87,7 +87,7 @@ pub fn write_all<K: Sink>(sink: &mut K, bytes: &[u8]) -> Result<(), Failed>
     ensures err { OnErr result ((n : _) × (n < length bytes.now)
         × Appended (K.written sink.old) (K.written sink.new) (take n bytes.now)) }
 
-    // Where it fails one fault was counted, and else none.
+    // It fails only where the count rose, and the count rises only where it fails.
     ensures cause { HasCause (K.faults sink.old) (K.faults sink.new) result }
     ensures calm { OnOk result (K.faults sink.new ≡ K.faults sink.old) }
 

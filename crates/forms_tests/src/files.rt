@@ -5,7 +5,8 @@ use std::process::Abort;
 use std::test::Fail;
 
 const HEADER: &str =
-    "ISO-10303-21;\nHEADER;\nFILE_DESCRIPTION((''),'2;1');\nFILE_NAME('','',(''),(''),'','','');\nFILE_SCHEMA(('IFC4'));\nENDSEC;\nDATA;\n";
+    "ISO-10303-21;\nHEADER;\nFILE_DESCRIPTION((''),'2;1');\nFILE_NAME('','',(''),(''),'','','');\n\
+     FILE_SCHEMA(('IFC4'));\nENDSEC;\nDATA;\n";
 
 const TRAILER: &str = "ENDSEC;\nEND-ISO-10303-21;\n";
 
@@ -86,7 +87,7 @@ fn two_walls_are_read(rt: HostRuntime) -> Result<(), Fail> {
 }
 
 #[test]
-fn bodies(rt: HostRuntime) -> Result<(), Fail> {
+fn ids_and_counts(rt: HostRuntime) -> Result<(), Fail> {
     let cases = [
         (WALLS, 2, 0),
         ("", 0, 0),
@@ -95,13 +96,23 @@ fn bodies(rt: HostRuntime) -> Result<(), Fail> {
         ("#2147483647=A($);\n", 9, 0),
         ("#2147483648=A($);\n", 9, 8),
         ("#99999999999999999999999999=A($);\n", 9, 8),
-        ("#1=A('');\n", 9, 0),
-        ("#1=A('aZ09',$);\n", 9, 0),
         ("#0=A($);\n", 9, 8),
         ("#01=A($);\n", 9, 8),
         ("#=A($);\n", 9, 8),
         ("1=A($);\n", 9, 8),
         ("#1=A($);\n#2=A($);\n#1=B($);\n", 9, 10),
+    ];
+    for (body, most, line) in cases {
+        expect_body(&rt, rt.alloc(), body, most, line)?;
+    }
+    Ok(())
+}
+
+#[test]
+fn keywords_and_parameters(rt: HostRuntime) -> Result<(), Fail> {
+    let cases = [
+        ("#1=A('');\n", 9, 0),
+        ("#1=A('aZ09',$);\n", 9, 0),
         ("#1=wall($);\n", 9, 8),
         ("#1=A1($);\n", 9, 8),
         ("#1=($);\n", 9, 8),

@@ -5,10 +5,19 @@ use std::test::Fail;
 
 /// Documents of the narrow form.
 const TAKEN: [&str; 4] = [
-    "{\"specifications\":[{\"name\":\"walls\",\"ifcVersion\":[\"IFC4\"],\"applicability\":{\"minOccurs\":\"0\",\"maxOccurs\":\"unbounded\",\"facets\":[{\"facet\":\"entity\",\"name\":{\"simpleValue\":\"IFCWALL\"}}]},\"requirements\":[{\"facet\":\"entity\",\"name\":{\"simpleValue\":\"IFCWALL\"}}]}]}",
-    "{\"specifications\":[{\"requirements\":[{\"facet\":\"entity\",\"name\":{\"simpleValue\":\"IFCWALL\"}}],\"applicability\":{\"minOccurs\":\"0\",\"maxOccurs\":\"unbounded\",\"facets\":[{\"facet\":\"entity\",\"name\":{\"simpleValue\":\"IFCWALL\"}}]},\"ifcVersion\":[\"IFC4\"],\"name\":\"walls\"}]}",
-    "{\"specifications\":[{\"name\":\"first\",\"name\":\"walls\",\"ifcVersion\":[\"IFC4\"],\"applicability\":{\"minOccurs\":\"0\",\"maxOccurs\":\"unbounded\",\"facets\":[{\"facet\":\"entity\",\"name\":{\"simpleValue\":\"IFCWALL\"}}]},\"requirements\":[{\"facet\":\"entity\",\"name\":{\"simpleValue\":\"IFCWALL\"}}]}]}",
-    "{\"specifications\":[{\"name\":\"walls\",\"ifcVersion\":[\"IFC4\"],\"applicability\":{\"minOccurs\":\"0\",\"maxOccurs\":\"unbounded\",\"facets\":[{\"facet\":\"entity\",\"name\":{\"simpleValue\":\"IFCWALL\"}}]},\"requirements\":[{\"facet\":\"entity\",\"name\":{\"simpleValue\":\"IFCWALL\"}}]}]}\n\t ",
+    "{\"specifications\":[{\"name\":\"walls\",\"ifcVersion\":[\"IFC4\"],\"applicability\":{\"minOccurs\":\"0\",\
+     \"maxOccurs\":\"unbounded\",\"facets\":[{\"facet\":\"entity\",\"name\":{\"simpleValue\":\"IFCWALL\"}}]},\
+     \"requirements\":[{\"facet\":\"entity\",\"name\":{\"simpleValue\":\"IFCWALL\"}}]}]}",
+    "{\"specifications\":[{\"requirements\":[{\"facet\":\"entity\",\"name\":{\"simpleValue\":\"IFCWALL\"}}],\
+     \"applicability\":{\"minOccurs\":\"0\",\"maxOccurs\":\"unbounded\",\"facets\":[{\"facet\":\"entity\",\
+     \"name\":{\"simpleValue\":\"IFCWALL\"}}]},\"ifcVersion\":[\"IFC4\"],\"name\":\"walls\"}]}",
+    "{\"specifications\":[{\"name\":\"first\",\"name\":\"walls\",\"ifcVersion\":[\"IFC4\"],\
+     \"applicability\":{\"minOccurs\":\"0\",\"maxOccurs\":\"unbounded\",\"facets\":[{\"facet\":\"entity\",\
+     \"name\":{\"simpleValue\":\"IFCWALL\"}}]},\"requirements\":[{\"facet\":\"entity\",\
+     \"name\":{\"simpleValue\":\"IFCWALL\"}}]}]}",
+    "{\"specifications\":[{\"name\":\"walls\",\"ifcVersion\":[\"IFC4\"],\"applicability\":{\"minOccurs\":\"0\",\
+     \"maxOccurs\":\"unbounded\",\"facets\":[{\"facet\":\"entity\",\"name\":{\"simpleValue\":\"IFCWALL\"}}]},\
+     \"requirements\":[{\"facet\":\"entity\",\"name\":{\"simpleValue\":\"IFCWALL\"}}]}]}\n\t ",
 ];
 
 /// What is refused, and why.
@@ -17,7 +26,9 @@ const REFUSED: [(&str, &str, IdsCause); 24] = [
     ("cut", "{\"specifications\":[", IdsCause::Json),
     (
         "two values",
-        "{\"specifications\":[{\"name\":\"walls\",\"ifcVersion\":[\"IFC4\"],\"applicability\":{\"minOccurs\":\"0\",\"maxOccurs\":\"unbounded\",\"facets\":[{\"facet\":\"entity\",\"name\":{\"simpleValue\":\"IFCWALL\"}}]},\"requirements\":[{\"facet\":\"entity\",\"name\":{\"simpleValue\":\"IFCWALL\"}}]}]}{}",
+        "{\"specifications\":[{\"name\":\"walls\",\"ifcVersion\":[\"IFC4\"],\"applicability\":{\"minOccurs\":\"0\",\
+         \"maxOccurs\":\"unbounded\",\"facets\":[{\"facet\":\"entity\",\"name\":{\"simpleValue\":\"IFCWALL\"}}]},\
+         \"requirements\":[{\"facet\":\"entity\",\"name\":{\"simpleValue\":\"IFCWALL\"}}]}]}{}",
         IdsCause::Json,
     ),
     ("a bare word", "walls", IdsCause::Json),
@@ -29,92 +40,133 @@ const REFUSED: [(&str, &str, IdsCause); 24] = [
     ),
     (
         "two specifications",
-        "{\"specifications\":[{\"name\":\"walls\",\"ifcVersion\":[\"IFC4\"],\"applicability\":{\"minOccurs\":\"0\",\"maxOccurs\":\"unbounded\",\"facets\":[{\"facet\":\"entity\",\"name\":{\"simpleValue\":\"IFCWALL\"}}]},\"requirements\":[{\"facet\":\"entity\",\"name\":{\"simpleValue\":\"IFCWALL\"}}]},{\"name\":\"walls\",\"ifcVersion\":[\"IFC4\"],\"applicability\":{\"minOccurs\":\"0\",\"maxOccurs\":\"unbounded\",\"facets\":[{\"facet\":\"entity\",\"name\":{\"simpleValue\":\"IFCWALL\"}}]},\"requirements\":[{\"facet\":\"entity\",\"name\":{\"simpleValue\":\"IFCWALL\"}}]}]}",
+        "{\"specifications\":[{\"name\":\"walls\",\"ifcVersion\":[\"IFC4\"],\"applicability\":{\"minOccurs\":\"0\",\
+         \"maxOccurs\":\"unbounded\",\"facets\":[{\"facet\":\"entity\",\"name\":{\"simpleValue\":\"IFCWALL\"}}]},\
+         \"requirements\":[{\"facet\":\"entity\",\"name\":{\"simpleValue\":\"IFCWALL\"}}]},{\"name\":\"walls\",\
+         \"ifcVersion\":[\"IFC4\"],\"applicability\":{\"minOccurs\":\"0\",\"maxOccurs\":\"unbounded\",\"facets\":[\
+         {\"facet\":\"entity\",\"name\":{\"simpleValue\":\"IFCWALL\"}}]},\"requirements\":[{\"facet\":\"entity\",\
+         \"name\":{\"simpleValue\":\"IFCWALL\"}}]}]}",
         IdsCause::NotBuilt,
     ),
     (
         "a further member of the document",
-        "{\"info\":1,\"specifications\":[{\"name\":\"walls\",\"ifcVersion\":[\"IFC4\"],\"applicability\":{\"minOccurs\":\"0\",\"maxOccurs\":\"unbounded\",\"facets\":[{\"facet\":\"entity\",\"name\":{\"simpleValue\":\"IFCWALL\"}}]},\"requirements\":[{\"facet\":\"entity\",\"name\":{\"simpleValue\":\"IFCWALL\"}}]}]}",
+        "{\"info\":1,\"specifications\":[{\"name\":\"walls\",\"ifcVersion\":[\"IFC4\"],\
+         \"applicability\":{\"minOccurs\":\"0\",\"maxOccurs\":\"unbounded\",\"facets\":[{\"facet\":\"entity\",\
+         \"name\":{\"simpleValue\":\"IFCWALL\"}}]},\"requirements\":[{\"facet\":\"entity\",\
+         \"name\":{\"simpleValue\":\"IFCWALL\"}}]}]}",
         IdsCause::NotBuilt,
     ),
     (
         "no name",
-        "{\"specifications\":[{\"ifcVersion\":[\"IFC4\"],\"applicability\":{\"minOccurs\":\"0\",\"maxOccurs\":\"unbounded\",\"facets\":[{\"facet\":\"entity\",\"name\":{\"simpleValue\":\"IFCWALL\"}}]},\"requirements\":[{\"facet\":\"entity\",\"name\":{\"simpleValue\":\"IFCWALL\"}}]}]}",
+        "{\"specifications\":[{\"ifcVersion\":[\"IFC4\"],\"applicability\":{\"minOccurs\":\"0\",\
+         \"maxOccurs\":\"unbounded\",\"facets\":[{\"facet\":\"entity\",\"name\":{\"simpleValue\":\"IFCWALL\"}}]},\
+         \"requirements\":[{\"facet\":\"entity\",\"name\":{\"simpleValue\":\"IFCWALL\"}}]}]}",
         IdsCause::NotBuilt,
     ),
     (
         "no version",
-        "{\"specifications\":[{\"name\":\"walls\",\"applicability\":{\"minOccurs\":\"0\",\"maxOccurs\":\"unbounded\",\"facets\":[{\"facet\":\"entity\",\"name\":{\"simpleValue\":\"IFCWALL\"}}]},\"requirements\":[{\"facet\":\"entity\",\"name\":{\"simpleValue\":\"IFCWALL\"}}]}]}",
+        "{\"specifications\":[{\"name\":\"walls\",\"applicability\":{\"minOccurs\":\"0\",\"maxOccurs\":\"unbounded\",\
+         \"facets\":[{\"facet\":\"entity\",\"name\":{\"simpleValue\":\"IFCWALL\"}}]},\"requirements\":[\
+         {\"facet\":\"entity\",\"name\":{\"simpleValue\":\"IFCWALL\"}}]}]}",
         IdsCause::NotBuilt,
     ),
     (
         "no applicability",
-        "{\"specifications\":[{\"name\":\"walls\",\"ifcVersion\":[\"IFC4\"],\"requirements\":[{\"facet\":\"entity\",\"name\":{\"simpleValue\":\"IFCWALL\"}}]}]}",
+        "{\"specifications\":[{\"name\":\"walls\",\"ifcVersion\":[\"IFC4\"],\"requirements\":[{\"facet\":\"entity\",\
+         \"name\":{\"simpleValue\":\"IFCWALL\"}}]}]}",
         IdsCause::NotBuilt,
     ),
     (
         "no requirements",
-        "{\"specifications\":[{\"name\":\"walls\",\"ifcVersion\":[\"IFC4\"],\"applicability\":{\"minOccurs\":\"0\",\"maxOccurs\":\"unbounded\",\"facets\":[{\"facet\":\"entity\",\"name\":{\"simpleValue\":\"IFCWALL\"}}]}}]}",
+        "{\"specifications\":[{\"name\":\"walls\",\"ifcVersion\":[\"IFC4\"],\"applicability\":{\"minOccurs\":\"0\",\
+         \"maxOccurs\":\"unbounded\",\"facets\":[{\"facet\":\"entity\",\"name\":{\"simpleValue\":\"IFCWALL\"}}]}}]}",
         IdsCause::NotBuilt,
     ),
     (
         "a further member",
-        "{\"specifications\":[{\"name\":\"walls\",\"ifcVersion\":[\"IFC4\"],\"applicability\":{\"minOccurs\":\"0\",\"maxOccurs\":\"unbounded\",\"facets\":[{\"facet\":\"entity\",\"name\":{\"simpleValue\":\"IFCWALL\"}}]},\"requirements\":[{\"facet\":\"entity\",\"name\":{\"simpleValue\":\"IFCWALL\"}}],\"identifier\":\"1\"}]}",
+        "{\"specifications\":[{\"name\":\"walls\",\"ifcVersion\":[\"IFC4\"],\"applicability\":{\"minOccurs\":\"0\",\
+         \"maxOccurs\":\"unbounded\",\"facets\":[{\"facet\":\"entity\",\"name\":{\"simpleValue\":\"IFCWALL\"}}]},\
+         \"requirements\":[{\"facet\":\"entity\",\"name\":{\"simpleValue\":\"IFCWALL\"}}],\"identifier\":\"1\"}]}",
         IdsCause::NotBuilt,
     ),
     (
         "a name that is a number",
-        "{\"specifications\":[{\"name\":1,\"ifcVersion\":[\"IFC4\"],\"applicability\":{\"minOccurs\":\"0\",\"maxOccurs\":\"unbounded\",\"facets\":[{\"facet\":\"entity\",\"name\":{\"simpleValue\":\"IFCWALL\"}}]},\"requirements\":[{\"facet\":\"entity\",\"name\":{\"simpleValue\":\"IFCWALL\"}}]}]}",
+        "{\"specifications\":[{\"name\":1,\"ifcVersion\":[\"IFC4\"],\"applicability\":{\"minOccurs\":\"0\",\
+         \"maxOccurs\":\"unbounded\",\"facets\":[{\"facet\":\"entity\",\"name\":{\"simpleValue\":\"IFCWALL\"}}]},\
+         \"requirements\":[{\"facet\":\"entity\",\"name\":{\"simpleValue\":\"IFCWALL\"}}]}]}",
         IdsCause::NotBuilt,
     ),
     (
         "another version",
-        "{\"specifications\":[{\"name\":\"walls\",\"ifcVersion\":[\"IFC2X3\"],\"applicability\":{\"minOccurs\":\"0\",\"maxOccurs\":\"unbounded\",\"facets\":[{\"facet\":\"entity\",\"name\":{\"simpleValue\":\"IFCWALL\"}}]},\"requirements\":[{\"facet\":\"entity\",\"name\":{\"simpleValue\":\"IFCWALL\"}}]}]}",
+        "{\"specifications\":[{\"name\":\"walls\",\"ifcVersion\":[\"IFC2X3\"],\"applicability\":{\"minOccurs\":\"0\",\
+         \"maxOccurs\":\"unbounded\",\"facets\":[{\"facet\":\"entity\",\"name\":{\"simpleValue\":\"IFCWALL\"}}]},\
+         \"requirements\":[{\"facet\":\"entity\",\"name\":{\"simpleValue\":\"IFCWALL\"}}]}]}",
         IdsCause::NotBuilt,
     ),
     (
         "two versions",
-        "{\"specifications\":[{\"name\":\"walls\",\"ifcVersion\":[\"IFC4\",\"IFC4\"],\"applicability\":{\"minOccurs\":\"0\",\"maxOccurs\":\"unbounded\",\"facets\":[{\"facet\":\"entity\",\"name\":{\"simpleValue\":\"IFCWALL\"}}]},\"requirements\":[{\"facet\":\"entity\",\"name\":{\"simpleValue\":\"IFCWALL\"}}]}]}",
+        "{\"specifications\":[{\"name\":\"walls\",\"ifcVersion\":[\"IFC4\",\"IFC4\"],\
+         \"applicability\":{\"minOccurs\":\"0\",\"maxOccurs\":\"unbounded\",\"facets\":[{\"facet\":\"entity\",\
+         \"name\":{\"simpleValue\":\"IFCWALL\"}}]},\"requirements\":[{\"facet\":\"entity\",\
+         \"name\":{\"simpleValue\":\"IFCWALL\"}}]}]}",
         IdsCause::NotBuilt,
     ),
     (
         "another occurrence",
-        "{\"specifications\":[{\"name\":\"walls\",\"ifcVersion\":[\"IFC4\"],\"applicability\":{\"minOccurs\":\"1\",\"maxOccurs\":\"unbounded\",\"facets\":[{\"facet\":\"entity\",\"name\":{\"simpleValue\":\"IFCWALL\"}}]},\"requirements\":[{\"facet\":\"entity\",\"name\":{\"simpleValue\":\"IFCWALL\"}}]}]}",
+        "{\"specifications\":[{\"name\":\"walls\",\"ifcVersion\":[\"IFC4\"],\"applicability\":{\"minOccurs\":\"1\",\
+         \"maxOccurs\":\"unbounded\",\"facets\":[{\"facet\":\"entity\",\"name\":{\"simpleValue\":\"IFCWALL\"}}]},\
+         \"requirements\":[{\"facet\":\"entity\",\"name\":{\"simpleValue\":\"IFCWALL\"}}]}]}",
         IdsCause::NotBuilt,
     ),
     (
         "another bound",
-        "{\"specifications\":[{\"name\":\"walls\",\"ifcVersion\":[\"IFC4\"],\"applicability\":{\"minOccurs\":\"0\",\"maxOccurs\":\"0\",\"facets\":[{\"facet\":\"entity\",\"name\":{\"simpleValue\":\"IFCWALL\"}}]},\"requirements\":[{\"facet\":\"entity\",\"name\":{\"simpleValue\":\"IFCWALL\"}}]}]}",
+        "{\"specifications\":[{\"name\":\"walls\",\"ifcVersion\":[\"IFC4\"],\"applicability\":{\"minOccurs\":\"0\",\
+         \"maxOccurs\":\"0\",\"facets\":[{\"facet\":\"entity\",\"name\":{\"simpleValue\":\"IFCWALL\"}}]},\
+         \"requirements\":[{\"facet\":\"entity\",\"name\":{\"simpleValue\":\"IFCWALL\"}}]}]}",
         IdsCause::NotBuilt,
     ),
     (
         "no facet",
-        "{\"specifications\":[{\"name\":\"walls\",\"ifcVersion\":[\"IFC4\"],\"applicability\":{\"minOccurs\":\"0\",\"maxOccurs\":\"unbounded\",\"facets\":[]},\"requirements\":[{\"facet\":\"entity\",\"name\":{\"simpleValue\":\"IFCWALL\"}}]}]}",
+        "{\"specifications\":[{\"name\":\"walls\",\"ifcVersion\":[\"IFC4\"],\"applicability\":{\"minOccurs\":\"0\",\
+         \"maxOccurs\":\"unbounded\",\"facets\":[]},\"requirements\":[{\"facet\":\"entity\",\
+         \"name\":{\"simpleValue\":\"IFCWALL\"}}]}]}",
         IdsCause::NotBuilt,
     ),
     (
         "another facet",
-        "{\"specifications\":[{\"name\":\"walls\",\"ifcVersion\":[\"IFC4\"],\"applicability\":{\"minOccurs\":\"0\",\"maxOccurs\":\"unbounded\",\"facets\":[{\"facet\":\"entity\",\"name\":{\"simpleValue\":\"IFCWALL\"}}]},\"requirements\":[{\"facet\":\"material\",\"name\":{\"simpleValue\":\"IFCWALL\"}}]}]}",
+        "{\"specifications\":[{\"name\":\"walls\",\"ifcVersion\":[\"IFC4\"],\"applicability\":{\"minOccurs\":\"0\",\
+         \"maxOccurs\":\"unbounded\",\"facets\":[{\"facet\":\"entity\",\"name\":{\"simpleValue\":\"IFCWALL\"}}]},\
+         \"requirements\":[{\"facet\":\"material\",\"name\":{\"simpleValue\":\"IFCWALL\"}}]}]}",
         IdsCause::NotBuilt,
     ),
     (
         "two requirements",
-        "{\"specifications\":[{\"name\":\"walls\",\"ifcVersion\":[\"IFC4\"],\"applicability\":{\"minOccurs\":\"0\",\"maxOccurs\":\"unbounded\",\"facets\":[{\"facet\":\"entity\",\"name\":{\"simpleValue\":\"IFCWALL\"}}]},\"requirements\":[{\"facet\":\"entity\",\"name\":{\"simpleValue\":\"IFCWALL\"}},{\"facet\":\"entity\",\"name\":{\"simpleValue\":\"IFCWALL\"}}]}]}",
+        "{\"specifications\":[{\"name\":\"walls\",\"ifcVersion\":[\"IFC4\"],\"applicability\":{\"minOccurs\":\"0\",\
+         \"maxOccurs\":\"unbounded\",\"facets\":[{\"facet\":\"entity\",\"name\":{\"simpleValue\":\"IFCWALL\"}}]},\
+         \"requirements\":[{\"facet\":\"entity\",\"name\":{\"simpleValue\":\"IFCWALL\"}},{\"facet\":\"entity\",\
+         \"name\":{\"simpleValue\":\"IFCWALL\"}}]}]}",
         IdsCause::NotBuilt,
     ),
     (
         "a name without a value",
-        "{\"specifications\":[{\"name\":\"walls\",\"ifcVersion\":[\"IFC4\"],\"applicability\":{\"minOccurs\":\"0\",\"maxOccurs\":\"unbounded\",\"facets\":[{\"facet\":\"entity\",\"name\":{\"simpleValue\":\"IFCWALL\"}}]},\"requirements\":[{\"facet\":\"entity\",\"name\":{}}]}]}",
+        "{\"specifications\":[{\"name\":\"walls\",\"ifcVersion\":[\"IFC4\"],\"applicability\":{\"minOccurs\":\"0\",\
+         \"maxOccurs\":\"unbounded\",\"facets\":[{\"facet\":\"entity\",\"name\":{\"simpleValue\":\"IFCWALL\"}}]},\
+         \"requirements\":[{\"facet\":\"entity\",\"name\":{}}]}]}",
         IdsCause::NotBuilt,
     ),
     (
         "a value that is null",
-        "{\"specifications\":[{\"name\":\"walls\",\"ifcVersion\":[\"IFC4\"],\"applicability\":{\"minOccurs\":\"0\",\"maxOccurs\":\"unbounded\",\"facets\":[{\"facet\":\"entity\",\"name\":{\"simpleValue\":\"IFCWALL\"}}]},\"requirements\":[{\"facet\":\"entity\",\"name\":{\"simpleValue\":null}}]}]}",
+        "{\"specifications\":[{\"name\":\"walls\",\"ifcVersion\":[\"IFC4\"],\"applicability\":{\"minOccurs\":\"0\",\
+         \"maxOccurs\":\"unbounded\",\"facets\":[{\"facet\":\"entity\",\"name\":{\"simpleValue\":\"IFCWALL\"}}]},\
+         \"requirements\":[{\"facet\":\"entity\",\"name\":{\"simpleValue\":null}}]}]}",
         IdsCause::NotBuilt,
     ),
     (
         "a predefined type",
-        "{\"specifications\":[{\"name\":\"walls\",\"ifcVersion\":[\"IFC4\"],\"applicability\":{\"minOccurs\":\"0\",\"maxOccurs\":\"unbounded\",\"facets\":[{\"facet\":\"entity\",\"name\":{\"simpleValue\":\"IFCWALL\"}}]},\"requirements\":[{\"facet\":\"entity\",\"name\":{\"simpleValue\":\"IFCWALL\"},\"predefinedType\":{\"simpleValue\":\"SOLIDWALL\"}}]}]}",
+        "{\"specifications\":[{\"name\":\"walls\",\"ifcVersion\":[\"IFC4\"],\"applicability\":{\"minOccurs\":\"0\",\
+         \"maxOccurs\":\"unbounded\",\"facets\":[{\"facet\":\"entity\",\"name\":{\"simpleValue\":\"IFCWALL\"}}]},\
+         \"requirements\":[{\"facet\":\"entity\",\"name\":{\"simpleValue\":\"IFCWALL\"},\
+         \"predefinedType\":{\"simpleValue\":\"SOLIDWALL\"}}]}]}",
         IdsCause::NotBuilt,
     ),
 ];

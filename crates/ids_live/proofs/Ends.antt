@@ -24,7 +24,7 @@ use Rattle.serial_run.specs.declared.run.End.TheVariants as ending
 use Rattle.serial_run.specs.declared.run.Ran.{Ran}
 use Rattle.serial_run.specs.Growth.{IsLater, returns, returned}
 use Rattle.serial_run.specs.Phased.{ArePhases, ScriptIsPhased}
-use Rattle.serial_run.specs.Stopped.{StopsFrom, AreStopped, StopIsPhased}
+use Rattle.serial_run.specs.Stopped.{StopsFrom, AreStopped, StopIsPhased, FullIsLong}
 use Rattle.serial_run.specs.Runs.{ends_pass, script_history, IsWhole, IsUnwritten, IsFull, IsLeft, IsEndedBy, IsFinished, IsRan, IsWritten}
 use Rattle.ids_live.specs.declared.ending.Ended.{Ended}
 use Rattle.ids_live.specs.declared.refused.Refused.{Refused}
@@ -66,6 +66,7 @@ early_end read old new e none status same = record {
   text = rw status tt;
   verdict = rw status tt;
   full = rw status tt;
+  long = rw status tt;
   refusal = rw status tt;
   sink = rw status tt;
   memory = rw (status, none) same;
@@ -83,6 +84,7 @@ shelf_end read old new e status = record {
   text = rw status tt;
   verdict = rw status tt;
   full = rw status tt;
+  long = rw status tt;
   refusal = rw status tt;
   sink = rw status tt;
   memory = rw status tt;
@@ -101,6 +103,7 @@ refused_end refused old new e none written status = record {
   text = rw status tt;
   verdict = rw status tt;
   full = rw status tt;
+  long = rw status tt;
   refusal = rw status (none, written);
   sink = rw status tt;
   memory = rw status tt;
@@ -119,6 +122,7 @@ refused_cut refused old new e n none short written status = record {
   text = rw status tt;
   verdict = rw status tt;
   full = rw status tt;
+  long = rw status tt;
   refusal = rw status tt;
   sink = rw status (none, (n, short, written));
   memory = rw status tt;
@@ -178,6 +182,7 @@ played_0 l old new e k status = record {
   text = rw status k.text;
   verdict = rw status (sym status ∙ k.verdict);
   full = rw status tt;
+  long = rw status tt;
   refusal = rw status tt;
   sink = rw status tt;
   memory = rw status tt;
@@ -195,6 +200,7 @@ played_1 l old new e k status = record {
   text = rw status k.text;
   verdict = rw status (sym status ∙ k.verdict);
   full = rw status tt;
+  long = rw status tt;
   refusal = rw status tt;
   sink = rw status tt;
   memory = rw status tt;
@@ -227,17 +233,20 @@ unwritten_end l old new e u legal stop status = record {
   text = rw status tt;
   verdict = rw status tt;
   full = rw status tt;
+  long = rw status tt;
   refusal = rw status tt;
   sink = rw status u;
   memory = rw status tt;
 }
 
 -- A call would have been answered Full.
-full_end : (l : Loaded) (old new : Option (List ℕ)) (e : Ended) → IsFull (ground_of l) l.phases old new e.journal → Legal (ground_of l) (reverse e.journal) → IsStop l e.journal → e.status ≡ 7 → IsEndOf (Ok l) old new e
-full_end l old new e u legal stop status =
+full_end : (l : Loaded) (old new : Option (List ℕ)) (e : Ended) → FullIsLong → IsFull (ground_of l) l.phases old new e.journal → Legal (ground_of l) (reverse e.journal) → IsStop l e.journal → e.status ≡ 7 → IsEndOf (Ok l) old new e
+full_end l old new e law u legal stop status =
     let back : reverse e.journal ≡ returned (reverse (serial l)) =
     u.back ∙ ap (λ (h : List StepRec). returned h) (sym (ap (λ (es : List StepRec). reverse es) (serial_of l) ∙ reverse-reverse (script_history (ground_of l) l.phases))) in
     let text : Appended old new (output l e.journal) = subst (λ (xs : List ℕ). Appended old new xs) (sym (output_of l e.journal)) u.text in
+    let most : (ground_of l).limits.steps ≤ length e.journal + 1 = law (ground_of l) l.phases e.journal u.full u.back in
+    let long : 16777215 ≤ length e.journal = omega (arith, most) in
     record {
       all_read = rw status refl;
       room = rw status tt;
@@ -249,6 +258,7 @@ full_end l old new e u legal stop status =
       text = rw status text;
       verdict = rw status tt;
       full = rw status (full_of l ∙ u.full, back);
+      long = rw status long;
       refusal = rw status tt;
       sink = rw status tt;
       memory = rw status tt;
@@ -286,26 +296,27 @@ left_end l old new e u legal stop status = record {
   text = rw status tt;
   verdict = rw status tt;
   full = rw status tt;
+  long = rw status tt;
   refusal = rw status tt;
   sink = rw status tt;
   memory = rw status (left_steps l old new e.journal u);
 }
 
 -- All ends of a run.
-ended_by : (l : Loaded) (old new : Option (List ℕ)) (e : Ended) (end : End) → IsFit l → ScriptIsPhased → StopIsPhased → IsModel (ground_of l).first → IsEndedBy (ground_of l) l.phases old new e.journal end → Legal (ground_of l) (reverse e.journal) → e.status ≡ status_at end → IsEndOf (Ok l) old new e
-ended_by l old new e ending.Passed fit law stops model k legal status = played_0 l old new e (is_played l old new e true fit law model k.0 legal k.1 status) status
-ended_by l old new e ending.Failed fit law stops model k legal status = played_1 l old new e (is_played l old new e false fit law model k.0 legal k.1 status) status
-ended_by l old new e ending.Unwritten fit law stops model k legal status =
+ended_by : (l : Loaded) (old new : Option (List ℕ)) (e : Ended) (end : End) → IsFit l → ScriptIsPhased → StopIsPhased → FullIsLong → IsModel (ground_of l).first → IsEndedBy (ground_of l) l.phases old new e.journal end → Legal (ground_of l) (reverse e.journal) → e.status ≡ status_at end → IsEndOf (Ok l) old new e
+ended_by l old new e ending.Passed fit law stops longs model k legal status = played_0 l old new e (is_played l old new e true fit law model k.0 legal k.1 status) status
+ended_by l old new e ending.Failed fit law stops longs model k legal status = played_1 l old new e (is_played l old new e false fit law model k.0 legal k.1 status) status
+ended_by l old new e ending.Unwritten fit law stops longs model k legal status =
     let alone : returned (reverse e.journal) ≡ reverse e.journal = ap (λ (cs : List Given). returns cs ++ reverse e.journal) k.none_out in
     unwritten_end l old new e k legal (stops (ground_of l) l.phases e.journal fit.specs.numbered model fit.order (record { front = reverse e.journal; within = k.within; back = sym alone })) status
-ended_by l old new e ending.Memory fit law stops model k legal status = left_end l old new e k legal (stops (ground_of l) l.phases e.journal fit.specs.numbered model fit.order k.cut) status
-ended_by l old new e ending.Full fit law stops model k legal status =
-    full_end l old new e k legal (stops (ground_of l) l.phases e.journal fit.specs.numbered model fit.order (record { front = script_history (ground_of l) l.phases; within = ([], refl); back = k.back })) status
+ended_by l old new e ending.Memory fit law stops longs model k legal status = left_end l old new e k legal (stops (ground_of l) l.phases e.journal fit.specs.numbered model fit.order k.cut) status
+ended_by l old new e ending.Full fit law stops longs model k legal status =
+    full_end l old new e longs k legal (stops (ground_of l) l.phases e.journal fit.specs.numbered model fit.order (record { front = script_history (ground_of l) l.phases; within = ([], refl); back = k.back })) status
 
-pub play_end : (l : Loaded) (g : Ground) (old new : Option (List ℕ)) (ran : Ran) (e : Ended) → g ≡ ground_of l → IsFit l → ScriptIsPhased → StopIsPhased → IsModel g.first → IsRan g l.phases old new ran → e.journal ≡ ran.journal → e.status ≡ status_at ran.end → IsEndOf (Ok l) old new e
-play_end l g old new ran e same fit law stops model k journal status =
+pub play_end : (l : Loaded) (g : Ground) (old new : Option (List ℕ)) (ran : Ran) (e : Ended) → g ≡ ground_of l → IsFit l → ScriptIsPhased → StopIsPhased → FullIsLong → IsModel g.first → IsRan g l.phases old new ran → e.journal ≡ ran.journal → e.status ≡ status_at ran.end → IsEndOf (Ok l) old new e
+play_end l g old new ran e same fit law stops longs model k journal status =
     let r : IsRan (ground_of l) l.phases old new ran = subst (λ (x : Ground). IsRan x l.phases old new ran) same k in
-    ended_by l old new e ran.end fit law stops (subst (λ (x : Ground). IsModel x.first) same model)
+    ended_by l old new e ran.end fit law stops longs (subst (λ (x : Ground). IsModel x.first) same model)
     (subst (λ (es : List StepRec). IsEndedBy (ground_of l) l.phases old new es ran.end) (sym journal) r.ended)
     (subst (λ (es : List StepRec). Legal (ground_of l) (reverse es)) (sym journal) r.legal) status
 

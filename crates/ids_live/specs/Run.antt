@@ -54,6 +54,8 @@ pub record IsEndOf (loading : Result Loaded Refused) (old new : Option (List ℕ
   pub verdict : At (0 ∷ 1 ∷ []) ended.status (IfOk loading (λ l. ended.status ≡ (if ends_pass (output l ended.journal) then 0 else 1)))
   -- at 7 the history has come to a call that would be answered Full, and each claim that was out was given back
   pub full : At (7 ∷ []) ended.status (MatchResult loading (λ l. (meets_full l ≡ true) × (reverse ended.journal ≡ returned (reverse (serial l)))) (λ refused. ⊥))
+  -- its journal then has as many entries as the limit of steps but one, or more
+  pub long : At (7 ∷ []) ended.status (16777215 ≤ length ended.journal)
   -- at 2 an input was refused, no step was made, and the line of the refused input was written
   pub refusal : At (2 ∷ []) ended.status (MatchResult loading (λ l. ⊥) (λ refused. (ended.journal ≡ []) × Appended old new (refused_line refused)))
   -- at 4 the sink failed in the text of a phase, or in the line of the refused input

@@ -11,7 +11,7 @@ use crate::refused::{Refused, refused_line};
 use audit_core::{Core, CoreJournal};
 use audit_model::Limits;
 use audit_run::PlainEvaluator;
-use serial_run::{End, run_script, script_is_phased, stop_is_phased};
+use serial_run::{End, full_is_long, run_script, script_is_phased, stop_is_phased};
 use shelf_io::{Sink, write_all};
 use std::alloc::Global;
 
@@ -26,6 +26,7 @@ pub fn play<K: Sink>(alloc: Global, out: &mut K, loaded: Loaded) -> Ended
 {
     script_is_phased();
     stop_is_phased();
+    full_is_long();
     let Loaded {
         specs,
         instances,

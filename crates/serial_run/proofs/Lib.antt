@@ -10,3 +10,4 @@ pub mod Counting
 pub mod Finishing
 pub mod Following
 pub mod Stopping
+pub mod Filling

@@ -1,6 +1,6 @@
 -- The journal of a script with the lines of one editor that was stopped: some phases are whole, and of the next a front was done;
 -- then the claim that was held was given back. Entries stand here in the order of the journal.
-use Rattle.std.specs.Prelude.{◌≡◌, ℕ, ◌<◌, List, [], ◌∷◌, ◌++◌, reverse, Option, Some, None, ◌⊎◌}
+use Rattle.std.specs.Prelude.{◌≡◌, ℕ, ◌<◌, ◌≤◌, ◌+◌, true, List, [], ◌∷◌, ◌++◌, length, reverse, Option, Some, None, ◌⊎◌}
 use Rattle.audit_model.specs.declared.verdict.Pair.{Pair}
 use Rattle.audit_model.specs.declared.step.Call.TheVariants as calls
 use Rattle.audit_model.specs.declared.step.Reply.TheVariants as replies
@@ -15,7 +15,9 @@ use Rattle.audit_model.specs.History.{Ground, out}
 use Rattle.audit_model.specs.ScriptLines.{Place, free, entry, Turns, Rounds, Does, Follows, own}
 use Rattle.audit_model.specs.ScriptOrder.{AreOrderly}
 use Rattle.serial_run.specs.Phased.{IsPhaseOf}
-use Rattle.serial_run.specs.Runs.{IsCut}
+use Rattle.audit_model.specs.Serial.{meets_full}
+use Rattle.serial_run.specs.Growth.{returned}
+use Rattle.serial_run.specs.Runs.{IsCut, script_history}
 
 -- the number of the claim that an editor holds; none where it holds nothing, or an Idle
 abbrev pub held_number : Option (Option ℕ) → Option ℕ
@@ -81,3 +83,9 @@ AreStopped (p ∷ ps) es =
 abbrev pub StopIsPhased : Type 0
 StopIsPhased = (g : Ground) (phases : List Phase) (journal : List StepRec) → NumberedFrom 1 g.specs → IsModel g.first → AreOrderly 1 phases → IsCut g phases journal →
     AreStopped phases journal × (out (reverse journal) ≡ [])
+
+-- Where a script comes to a call that would be answered Full, the history up to there, with the return of each claim that was out behind
+-- it, has as many entries as the limit of steps but one.
+abbrev pub FullIsLong : Type 0
+FullIsLong = (g : Ground) (phases : List Phase) (journal : List StepRec) → meets_full g phases ≡ true → reverse journal ≡ returned (script_history g phases) →
+    g.limits.steps ≤ length journal + 1

@@ -1,6 +1,6 @@
 //! Laws of the runs of scripts of one editor. Each function does nothing: its contract is the law.
 ghost use Rattle.serial_run.specs.Phased.{ScriptIsPhased};
-ghost use Rattle.serial_run.specs.Stopped.{StopIsPhased};
+ghost use Rattle.serial_run.specs.Stopped.{FullIsLong, StopIsPhased};
 
 /// The journal that an orderly script of editor 1 makes, where no call is answered `Full`, falls into
 /// the phases of the script: in each the entries of the editor in the order of its lines, and then one
@@ -15,4 +15,10 @@ pub fn script_is_phased()
 /// by its own actor, and no claim is out.
 pub fn stop_is_phased()
     ensures { StopIsPhased }
+{}
+
+/// Where a script comes to a call that would be answered `Full`, its journal has as many entries as the
+/// limit of steps but one, or more.
+pub fn full_is_long()
+    ensures { FullIsLong }
 {}

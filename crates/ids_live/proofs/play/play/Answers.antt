@@ -14,7 +14,7 @@ returns-clause-sink g c = sink_after c.run_script-ran.result.end _ _ _ c.run_scr
 pub returns-clause-ends : goal.returns-clause-ends
 returns-clause-ends g c =
     let same : c.in-Ok.core.ground ≡ ground_of c.args.loaded = rw c.as_slice-2.ensures at c.in-Ok.ensures.ground in
-    play_end c.args.loaded c.in-Ok.core.ground _ _ c.run_script-ran.result _ same c.requires c.script_is_phased.ensures c.stop_is_phased.ensures c.in-Ok.ensures.ascending c.run_script-ran.ensures.ran refl c.status_of.ensures
+    play_end c.args.loaded c.in-Ok.core.ground _ _ c.run_script-ran.result _ same c.requires c.script_is_phased.ensures c.stop_is_phased.ensures c.full_is_long.ensures c.in-Ok.ensures.ascending c.run_script-ran.ensures.ran refl c.status_of.ensures
 
 pub returns-in_default-clause-ends : goal.returns-in_default-clause-ends
 returns-in_default-clause-ends g c = early_end (Ok c.args.loaded) _ _ c.ended.result c.ended.ensures.journal c.ended.ensures.status refl

@@ -80,7 +80,7 @@ only_one (Open.one r) = r
 abbrev at_remark : Text → List Text → Remarks
 at_remark p outer = record { innermost = p; outer = outer }
 
-remark_sound : (start t u : Text) → remark start t ≡ Ok (tt, u) → Remark t u
+pub remark_sound : (start t u : Text) → remark start t ≡ Ok (tt, u) → Remark t u
 unfolding remark
 remark_sound start t u e =
     let b = bound e in
@@ -112,14 +112,14 @@ remark_complete : {t u : Text} → Remark t u → (start : Text) → remark star
 unfolding remark
 remark_complete is start = let n = remark_runs is start in rw (all_run Unclosed remark_turn n.1) refl
 
-remark_shorter : {t u : Text} → Remark t u → length u < length t
+pub remark_shorter : {t u : Text} → Remark t u → length u < length t
 remark_shorter Remark.closed = omega arith
 remark_shorter (Remark.nested a b) = omega (arith, remark_shorter a, remark_shorter b)
 remark_shorter (Remark.other o k a) = omega (arith, remark_shorter a)
 
 -- ---- tail remarks
 
-tail_is : (t : Text) → TailRemark t (tail_remark t)
+pub tail_is : (t : Text) → TailRemark t (tail_remark t)
 unfolding tail_remark
 tail_is [] = TailRemark.end
 tail_is (c ∷ t) =
@@ -134,7 +134,7 @@ tail_only TailRemark.end = refl
 tail_only TailRemark.line_feed = refl
 tail_only (TailRemark.other h is) = rw h (tail_only is)
 
-tail_shorter : {t u : Text} → TailRemark t u → length u ≤ length t
+pub tail_shorter : {t u : Text} → TailRemark t u → length u ≤ length t
 tail_shorter TailRemark.end = omega arith
 tail_shorter TailRemark.line_feed = omega arith
 tail_shorter (TailRemark.other h is) = omega (arith, tail_shorter is)

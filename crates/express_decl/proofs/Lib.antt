@@ -12,3 +12,4 @@ pub mod BodyComplete
 pub mod EntityLaws
 pub mod SchemaLaws
 pub mod ReadLaws
+pub mod TurnLaws

@@ -21,7 +21,7 @@ pub record Comes {A : Type 0} (t : Text) (read : Read DeclCause A) (value : A) (
 
 -- ---- words and signs
 
-word_of_is : (at : Text) (x : Token) (t : Text) (w : List ℕ) (u : Text) → word_of at x t ≡ Ok (w, u) → (x ≡ Word w) × (t ≡ u)
+pub word_of_is : (at : Text) (x : Token) (t : Text) (w : List ℕ) (u : Text) → word_of at x t ≡ Ok (w, u) → (x ≡ Word w) × (t ≡ u)
 word_of_is at (Word v) t w u e = (ap (λ (n : List ℕ). Word n) (value_of e), left_of e)
 word_of_is at Quoted t w u e = absurd cc
 word_of_is at (Sign c) t w u e = absurd cc

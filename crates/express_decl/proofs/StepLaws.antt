@@ -51,14 +51,20 @@ some_is opened (Some x) t y e =
     let one : (x, t) ≡ y = same e in
     (ap (λ (z : Lexed × Text). Some z.0) one, ap (λ (z : Lexed × Text). z.1) one)
 
-pub next_sound : (opened t : Text) (y : Lexed × Text) {ys : List Token} → next opened t ≡ Ok y → Tokens y.1 ys → Tokens t (y.0.token ∷ ys)
+-- the token that comes next, and where it ends
+next_is_token : (opened t : Text) (y : Lexed × Text) → next opened t ≡ Ok y → (s : Text) × Gap t s × IsToken s y.0.token y.1
 unfolding next
-next_sound opened t y {ys = ys} e rest =
+next_is_token opened t y e =
     let b = bound {r = token t} e in
     let s = some_is opened b.0.0 b.0.1 y b.2 in
     let read : token t ≡ Ok (Some y.0, y.1) = b.1 ∙ (ap (λ (o : Option Lexed). given o b.0.1) s.0 ∙ ap (λ (u : Text). given (Some y.0) u) s.1) in
-    let is = token_sound t y.0 y.1 read in
-    Tokens.more is.1 is.2 rest
+    token_sound t y.0 y.1 read
+
+pub next_sound : (opened t : Text) (y : Lexed × Text) {ys : List Token} → next opened t ≡ Ok y → Tokens y.1 ys → Tokens t (y.0.token ∷ ys)
+next_sound opened t y e rest = let is = next_is_token opened t y e in Tokens.more is.1 is.2 rest
+
+pub next_less : (opened t : Text) (y : Lexed × Text) → next opened t ≡ Ok y → length y.1 < length t
+next_less opened t y e = let is = next_is_token opened t y e in next_shorter is.1 is.2
 
 -- A step to the token x, behind which there are the tokens ys.
 pub record Stepped (opened t : Text) (x : Token) (ys : List Token) : Type 0 where

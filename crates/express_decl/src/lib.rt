@@ -12,5 +12,5 @@ mod token;
 mod word;
 
 pub use decl::{DeclCause, DeclFault, Decls};
-pub use laws::{one_result, one_token_list};
+pub use laws::{one_result, one_token_list, turns_shorten};
 pub use schema::read_declarations;

@@ -38,7 +38,7 @@ pub record IsEntity (name : List ℕ) (t : Text) (params : List Value) (u : Text
   pub is : written.name ≡ name
   pub values : Parameters behind params u
 
--- Behind the header entities that have to stand: `ENDSEC;`, or a further one, whose name has no hyphen and isn't `ENDSEC`.
+-- Behind the header entities that have to stand: `ENDSEC;`, or a further one, whose name has no hyphen and isn't `ENDSEC` in capitals.
 pub data Further : Text → Text → Type 0 where
   ends : (t u : Text) → IsLine w.EndSection t u → Further t u
   entity : (written : Word) (params : List Value) (t r s u : Text) → Next t (k.Word written) r → written.plain ≡ true → (section_word written ≡ w.EndSection → ⊥)

@@ -218,7 +218,7 @@ fn nested(alloc: Global, end: &str) -> Result<String, AllocError> {
 #[test]
 fn deep_patterns_end(rt: HostRuntime) -> Result<(), Fail> {
     let mut text = String::new(rt.alloc());
-    for _ in 0..1_000 {
+    for _ in 0..100 {
         text.push('a')?;
     }
     for (end, wanted) in ENDS {

@@ -424,42 +424,67 @@ fn words_not_taken(rt: HostRuntime) -> Result<(), Fail> {
     Ok(())
 }
 
-/// The read of this number of this input fails.
-fn expect_shelf_fault<R: Abort>(
+/// How a run ends, and what it has written and done.
+#[derive(Clone, Copy)]
+struct End {
+    status: u8,
+    text: &'static str,
+    entries: usize,
+}
+
+/// The run ends so where the read of this number of this input fails.
+fn expect_end_of_reads<R: Abort>(
     rt: &R,
     alloc: Global,
     name: &str,
     number: u32,
+    end: &End,
 ) -> Result<(), Fail> {
     let walls = model(alloc, TWO_WALLS)?;
     let mut shelf = shelf(alloc, WALLS, walls.as_str(), "sync", name, number)?;
     let mut sink = MemSink::new(alloc, 200, 200, Numbers::new(alloc))?;
     let words = words(alloc, "replay")?;
     let ended = run_serial(alloc, &words, &mut shelf, &mut sink);
-    assert_eq!(rt; ended.status, 3, "{name} {number}");
-    assert!(rt; sink.bytes().is_empty() && ended.journal.steps().as_slice().is_empty());
+    assert_eq!(rt; ended.status, end.status, "{name} {number}");
+    assert_eq!(rt; sink.bytes(), end.text.as_bytes(), "{name} {number}");
+    assert_eq!(rt; ended.journal.steps().as_slice().len(), end.entries);
     Ok(())
 }
 
 /// Each read of each input fails in turn: the one that gets the bytes, and the one that finds the end.
+/// A third isn't made, and so its failure does nothing.
 #[test]
 fn shelf_fails(rt: HostRuntime) -> Result<(), Fail> {
+    let failed = End {
+        status: 3,
+        text: "",
+        entries: 0,
+    };
+    let passed = End {
+        status: 0,
+        text: PASS,
+        entries: 6,
+    };
     for name in ["S", "Q", "M", "T"] {
-        expect_shelf_fault(&rt, rt.alloc(), name, 1)?;
-        expect_shelf_fault(&rt, rt.alloc(), name, 2)?;
+        expect_end_of_reads(&rt, rt.alloc(), name, 1, &failed)?;
+        expect_end_of_reads(&rt, rt.alloc(), name, 2, &failed)?;
+        expect_end_of_reads(&rt, rt.alloc(), name, 3, &passed)?;
     }
     Ok(())
 }
 
-/// The call behind so many calls fails, of a sink that takes so many bytes a call.
+/// A run of this script, which would write the text of this end: the call behind so many calls fails, of
+/// a sink that takes so many bytes a call. The status is 4, and the entries are those of the end.
 fn expect_sink_fault<R: Abort>(
     rt: &R,
     alloc: Global,
+    script: &str,
+    end: &End,
     most: usize,
     before: u32,
 ) -> Result<(), Fail> {
     let walls = model(alloc, TWO_WALLS)?;
-    let mut shelf = shelf(alloc, WALLS, walls.as_str(), "sync", "", 0)?;
+    let mut shelf = shelf(alloc, WALLS, walls.as_str(), script, "", 0)?;
     let mut failing = Numbers::new(alloc);
     failing
         .push(before.saturating_add(1))
@@ -469,17 +494,38 @@ fn expect_sink_fault<R: Abort>(
     let ended = run_serial(alloc, &words, &mut shelf, &mut sink);
     let written = most.saturating_mul(before as usize);
     assert_eq!(rt; ended.status, 4, "{most} {before}");
-    assert_eq!(rt; Some(sink.bytes()), PASS.as_bytes().get(..written));
-    assert_eq!(rt; ended.journal.steps().as_slice().len(), 6);
+    assert_eq!(rt; Some(sink.bytes()), end.text.as_bytes().get(..written));
+    assert_eq!(rt; ended.journal.steps().as_slice().len(), end.entries);
     Ok(())
 }
 
 /// Each call of sinks that take 1, 7, 10 and all bytes a call fails in turn.
 #[test]
 fn sink_fails(rt: HostRuntime) -> Result<(), Fail> {
+    let passed = End {
+        status: 0,
+        text: PASS,
+        entries: 6,
+    };
     for (most, calls) in [(1usize, 52u32), (7, 8), (10, 6), (200, 1)] {
         for before in 0..calls {
-            expect_sink_fault(&rt, rt.alloc(), most, before)?;
+            expect_sink_fault(&rt, rt.alloc(), "sync", &passed, most, before)?;
+        }
+    }
+    Ok(())
+}
+
+/// The same in the line of a refused input.
+#[test]
+fn sink_fails_at_a_refusal(rt: HostRuntime) -> Result<(), Fail> {
+    let refused = End {
+        status: 2,
+        text: "refused script line 1 NotBuilt\n",
+        entries: 0,
+    };
+    for (most, calls) in [(1usize, 31u32), (7, 5), (200, 1)] {
+        for before in 0..calls {
+            expect_sink_fault(&rt, rt.alloc(), "", &refused, most, before)?;
         }
     }
     Ok(())

@@ -19,8 +19,9 @@ use std::alloc::Global;
 /// phase by phase what the editor is told and the report, or the line of the first input that is
 /// refused. It waits for nobody and always returns.
 ///
-/// Cost: `O(b)` for b bytes of input, `O(n log n)` where the file's ids don't ascend, and
-/// `O(s n)` for each commit and each report, for s specifications and n instances.
+/// Cost: `O(b)` for b bytes of input, `O(n log n)` where the file's ids don't ascend, and for s
+/// specifications and n instances `O(s n log (s n))` for each commit, `O(n)` more for each of its edits,
+/// and `O(s n)` for each report.
 pub fn run_serial<H: Shelf, O: Sink>(
     alloc: Global,
     words: &[String],

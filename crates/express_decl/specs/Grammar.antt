@@ -1,4 +1,4 @@
--- Which declarations tokens are, by cases (ISO 10303-11, clause 9, declarations), cut to what is kept. In each relation the last list is
+-- Which declarations tokens are, by cases (ISO 10303-11, declarations), cut to what is kept. In each relation the last list is
 -- what follows. Signs stand by their codes: 40 and 41 are the parentheses, 44 the comma, 46 the dot, 58 the colon, 59 the semicolon, 61 `=`,
 -- 92 the backslash. Any word may be a name.
 use Rattle.std.specs.Prelude.{◌≡◌, ℕ, Bool, true, false, ◌&&◌, ◌||◌, List, [], ◌∷◌, ◌++◌, Option, Some, None, if◌then◌else◌, map, codes}

@@ -1,4 +1,4 @@
--- Which tokens a text has, by cases (ISO 10303-11, clause 7, fundamental elements). In each relation the last text is what follows.
+-- Which tokens a text has, by cases (ISO 10303-11, fundamental elements). In each relation the last text is what follows.
 use Rattle.std.specs.Prelude.{◌≡◌, ℕ, Bool, true, false, ◌&&◌, ◌||◌, List, [], ◌∷◌, ◌==◌}
 use Rattle.std.specs.Char.{is_ascii_graphic}
 use Rattle.reading.specs.Reading.{Text}

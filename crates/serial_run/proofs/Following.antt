@@ -41,7 +41,7 @@ by_both : (who : ℕ) (es fs : List StepRec) → AllBy who es → AllBy who fs �
 by_both who [] fs a b = b
 by_both who (e ∷ es) fs a b = (a.0, by_both who es fs a.1 b)
 
-legal_older : (g : Ground) (xs h : List StepRec) → Legal g (xs ++ h) → Legal g h
+pub legal_older : (g : Ground) (xs h : List StepRec) → Legal g (xs ++ h) → Legal g h
 legal_older g [] h l = l
 legal_older g (x ∷ xs) h l = legal_older g xs h l.1
 
@@ -72,7 +72,7 @@ pub none_held : (who : ℕ) (cs : List Given) (o : Option (Option ℕ)) → is_s
 none_held who cs None e k = k
 none_held who cs (Some x) e k = absurd (cc)
 
-found_alone : (n : ℕ) (c : Given) → c.number ≡ n → claim_numbered n (c ∷ []) ≡ Some c
+pub found_alone : (n : ℕ) (c : Given) → c.number ≡ n → claim_numbered n (c ∷ []) ≡ Some c
 found_alone n c e = ap (λ (b : Bool). cond b (Some c) None) (eq-eqb c.number n e)
 
 given_to_self : (who : ℕ) (c : Given) → c.actor ≡ who → given_to who (Some c) ≡ Some c
@@ -110,7 +110,7 @@ rounds_first who n number pair at reply es (inr k) =
     inr (suc k.0, both k.1, omega (arith, less), turns_first who k.0 number pair at reply k.1 k.3, ap both k.4)
 
 -- What was done after h is so many rounds.
-record IsWorked (who n : ℕ) (p : Place) (h : List StepRec) (d : Done) : Type 0 where
+pub record IsWorked (who n : ℕ) (p : Place) (h : List StepRec) (d : Done) : Type 0 where
   pub entries : List StepRec
   pub history : d.history ≡ reverse entries ++ h
   pub rounds : Rounds who n entries
@@ -124,7 +124,7 @@ IfGoing F d = d.full ≡ false → F d
 roomy : (F : Done → Type 0) (g : Ground) (n : ℕ) (h : List StepRec) (p : Place) (d : Done) → IfGoing F d → IfGoing F (with_room g n h p d)
 roomy F g n h p d k = elim (is_full g h n) as (λ b. IfGoing F (cond b (ended h p) d)) [ true ↦ λ e. absurd (cc) | false ↦ k ]
 
-abbrev Works : ℕ → ℕ → Place → (List StepRec → Done) → Type 0
+abbrev pub Works : ℕ → ℕ → Place → (List StepRec → Done) → Type 0
 Works who n p more = (h : List StepRec) → out h ≡ [] → IfGoing (IsWorked who n p h) (more h)
 
 round_on : (g : Ground) (who n : ℕ) (p : Place) (h : List StepRec) (number : ℕ) (pair : Pair) (r : ℕ) (more : List StepRec → Done) → Works who n p more → out h ≡ [] →
@@ -155,7 +155,7 @@ claim_on g who n p h None number r more on none =
     record { entries = entry who calls.Claim Idle ∷ []; history = refl; rounds = inr (0, [], less, refl, refl); by = (refl, tt); none_out = none; place = refl }
 claim_on g who n p h (Some pair) number r more on none = round_on g who n p h number pair r more on none
 
-rounds_on : (g : Ground) (who n : ℕ) (p : Place) → Works who n p (rounds g who n p)
+pub rounds_on : (g : Ground) (who n : ℕ) (p : Place) → Works who n p (rounds g who n p)
 rounds_on g who zero p h none = λ going. record { entries = []; history = refl; rounds = inl refl; by = tt; none_out = none; place = refl }
 rounds_on g who (suc n) p h none =
     roomy (IsWorked who (suc n) p h) g 2 h p (after_claim g who (claim_reply g h) h p (rounds g who n p))
@@ -281,7 +281,7 @@ going_before : (b : Bool) (F : Bool → Bool) → (b ≡ true → F b ≡ true) 
 going_before true F k e = absurd (let t : F true ≡ true = k refl in cc)
 going_before false F k e = refl
 
-lines_going : (g : Ground) (ls : List ScriptLine) (s : Run) → (lines_run g ls s).full ≡ false → s.full ≡ false
+pub lines_going : (g : Ground) (ls : List ScriptLine) (s : Run) → (lines_run g ls s).full ≡ false → s.full ≡ false
 lines_going g ls s e = going_before s.full (λ b. (lines_run g ls s).full) (λ t. ap (λ (u : Run). u.full) (lines_full g ls s t) ∙ t) e
 
 -- the run u was led by these lines of editor 1, who was at the place p, from the history h
@@ -361,10 +361,10 @@ none_after n r (p ∷ ps) h o =
     ap (λ (x : List StepRec). out x) (turned first (second ∷ es) h ∙ turned second es (first ∷ h))
     ∙ none_after (n + 1) r ps (second ∷ first ∷ h) (none_left n (out (first ∷ h)) c one refl)
 
-sync_going : (g : Ground) (s : Run) → (sync_run g s).full ≡ false → s.full ≡ false
+pub sync_going : (g : Ground) (s : Run) → (sync_run g s).full ≡ false → s.full ≡ false
 sync_going g s e = going_before s.full (λ b. (cond b s (moved 0 s (drain_done g s.history))).full) (λ t. ap (λ (b : Bool). (cond b s (moved 0 s (drain_done g s.history))).full) t ∙ t) e
 
-sync_is : (g : Ground) (s : Run) → NumberedFrom 1 g.specs → IsModel g.first → Legal g s.history → out s.history ≡ [] → (sync_run g s).full ≡ false → sync_run g s ≡ moved 0 s (done (reverse (drain_after g s.history) ++ s.history) free)
+pub sync_is : (g : Ground) (s : Run) → NumberedFrom 1 g.specs → IsModel g.first → Legal g s.history → out s.history ≡ [] → (sync_run g s).full ≡ false → sync_run g s ≡ moved 0 s (done (reverse (drain_after g s.history) ++ s.history) free)
 sync_is g s numbered ascending l o going =
     let at : sync_run g s ≡ moved 0 s (drain_done g s.history) = ap (λ (b : Bool). cond b s (moved 0 s (drain_done g s.history))) (sync_going g s going) in
     at ∙ ends at (drain_ends g s.history numbered ascending l o) where
@@ -415,7 +415,7 @@ phases_full g (p ∷ ps) s e =
     let full : t.full ≡ true = ap (λ (u : Run). u.full) (lines_full g p.lines s e) ∙ e in
     phases_full g ps (sync_run g t) (ap (λ (b : Bool). (cond b t (moved 0 t (drain_done g t.history))).full) full ∙ full)
 
-phases_going : (g : Ground) (ps : List Phase) (s : Run) → (phases_run g ps s).full ≡ false → s.full ≡ false
+pub phases_going : (g : Ground) (ps : List Phase) (s : Run) → (phases_run g ps s).full ≡ false → s.full ≡ false
 phases_going g ps s e = going_before s.full (λ b. (phases_run g ps s).full) (λ t. phases_full g ps s t) e
 
 abbrev PhasesFrom : List Phase → List StepRec → Run → Type 0

@@ -11,3 +11,4 @@ pub mod Finishing
 pub mod Following
 pub mod Stopping
 pub mod Filling
+pub mod Only

@@ -1,6 +1,6 @@
 -- The phases of a journal with the lines of one editor: in each phase first the entries of editor 1, in the order of its lines, and
 -- then one drain, whose last entry is the report. Entries stand here in the order of the journal.
-use Rattle.std.specs.Prelude.{◌≡◌, ℕ, false, List, [], ◌∷◌, ◌++◌}
+use Rattle.std.specs.Prelude.{◌≡◌, ℕ, false, List, [], ◌∷◌, ◌++◌, reverse}
 use Rattle.audit_model.specs.declared.step.Call.TheVariants as calls
 use Rattle.audit_model.specs.declared.step.Reply.TheVariants as replies
 use Rattle.audit_model.specs.declared.step.StepRec.{StepRec}
@@ -9,6 +9,7 @@ use Rattle.audit_model.specs.declared.script.Phase.{Phase}
 use Rattle.audit_model.specs.Models.{IsModel}
 use Rattle.audit_model.specs.Pairs.{NumberedFrom}
 use Rattle.audit_model.specs.History.{Ground}
+use Rattle.audit_model.specs.Machine.{Legal}
 use Rattle.audit_model.specs.Drain.{IsDrain, caller_entry}
 use Rattle.audit_model.specs.ScriptLines.{Follows, own}
 use Rattle.audit_model.specs.ScriptOrder.{AreOrderly}
@@ -42,3 +43,8 @@ ArePhases (p ∷ ps) es = (here rest : List StepRec) × (es ≡ here ++ rest) ×
 abbrev pub ScriptIsPhased : Type 0
 ScriptIsPhased = (g : Ground) (phases : List Phase) → NumberedFrom 1 g.specs → IsModel g.first → AreOrderly 1 phases → meets_full g phases ≡ false →
     ArePhases phases (serial g phases)
+
+-- And it is the only one: a legal journal that falls into the phases of the script is the journal that the script makes.
+abbrev pub OnlySerial : Type 0
+OnlySerial = (g : Ground) (phases : List Phase) (es : List StepRec) → NumberedFrom 1 g.specs → IsModel g.first → AreOrderly 1 phases → meets_full g phases ≡ false →
+    ArePhases phases es → Legal g (reverse es) → es ≡ serial g phases

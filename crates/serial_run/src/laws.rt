@@ -1,5 +1,5 @@
 //! Laws of the runs of scripts of one editor. Each function does nothing: its contract is the law.
-ghost use Rattle.serial_run.specs.Phased.{ScriptIsPhased};
+ghost use Rattle.serial_run.specs.Phased.{OnlySerial, ScriptIsPhased};
 ghost use Rattle.serial_run.specs.Stopped.{FullIsLong, StopIsPhased};
 
 /// The journal that an orderly script of editor 1 makes, where no call is answered `Full`, falls into
@@ -7,6 +7,12 @@ ghost use Rattle.serial_run.specs.Stopped.{FullIsLong, StopIsPhased};
 /// drain with its report.
 pub fn script_is_phased()
     ensures { ScriptIsPhased }
+{}
+
+/// And it is the only one: a legal journal that falls into the phases of the script is the journal that
+/// the script makes. So that journal is said by the relations of lines, drains and replies alone.
+pub fn only_serial()
+    ensures { OnlySerial }
 {}
 
 /// Where such a script was stopped, before a call that would be answered `Full`, for want of memory or

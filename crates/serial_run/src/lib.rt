@@ -12,5 +12,5 @@ mod steps;
 mod telling;
 mod turns;
 
-pub use laws::{full_is_long, script_is_phased, stop_is_phased};
+pub use laws::{full_is_long, only_serial, script_is_phased, stop_is_phased};
 pub use run::{End, Ran, run_script};

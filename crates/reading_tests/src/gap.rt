@@ -84,7 +84,7 @@ fn blanks(cursor: &mut Cursor<'_>) -> bool
     matches!(cursor.ascii(), Some(b'/'))
 }
 
-/// Passes all blanks and comments that come next. A cursor of its own goes to `slash`, so that the one of the caller's stays in registers.
+/// Passes all blanks and comments that come next. What goes to `slash` is a copy of the cursor, so that the caller's stays in registers.
 #[tactic(auto, using(crate::proofs::Gaps::gap_laws))]
 #[inline(always)]
 pub(crate) fn gap<'a>(cursor: &mut Cursor<'a>) -> Result<(), Stop<'a, Cause>>

@@ -6,3 +6,4 @@ pub mod Tools
 pub mod Turns
 pub mod RunLaws
 pub mod Lines
+pub mod Ascii

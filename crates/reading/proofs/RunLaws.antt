@@ -5,7 +5,7 @@ use Rattle.std.specs.List.{list_all}
 use Rattle.reading.specs.Reading.{Text, first}
 use Rattle.reading.specs.Runs.{begins, IsRun, with_first, run}
 
-false_or_true : (b : Bool) → (b ≡ false) ⊎ (b ≡ true)
+pub false_or_true : (b : Bool) → (b ≡ false) ⊎ (b ≡ true)
 false_or_true true = inr refl
 false_or_true false = inl refl
 

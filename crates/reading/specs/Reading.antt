@@ -1,5 +1,5 @@
 -- Reading from left to right, with the first refusal. Each definition holds for any cause C that a refusal may have.
-use Rattle.std.specs.Prelude.{◌≡◌, ℕ, zero, suc, ◌+◌, ◌<◌, Bool, true, List, [], ◌∷◌, length, Option, Some, None, Result, Ok, Err, if◌then◌else◌}
+use Rattle.std.specs.Prelude.{◌≡◌, ℕ, zero, suc, ◌+◌, ◌<◌, Bool, true, List, [], ◌∷◌, length, Option, Some, None, Result, Ok, Err, nat_lt, if◌then◌else◌}
 use Rattle.reading.specs.Codes.{codes_of, size_of}
 use Rattle.reading.specs.declared.stop.Stop.{Stop}
 use Rattle.reading.specs.declared.stop.Stop.TheVariants as stop
@@ -30,6 +30,11 @@ refuse why at = Err (record { why = why; at = at })
 abbrev pub first : Text → Option ℕ
 first [] = None
 first (c ∷ t) = Some c
+
+-- The first code, if it is a character of ASCII: below 128.
+abbrev pub ascii : Text → Option ℕ
+ascii [] = None
+ascii (c ∷ t) = if nat_lt c 128 then Some c else None
 
 -- ---- turns
 

@@ -3,7 +3,7 @@
 ghost use Rattle.std.specs.Prelude.{◌≡◌, ◌∷◌, [], MatchOption, drop, if◌then◌else◌};
 ghost use Rattle.std.specs.Option.{option_map};
 ghost use Rattle.reading.specs.Codes.{code_of, codes_of};
-ghost use Rattle.reading.specs.Reading.{first, turns};
+ghost use Rattle.reading.specs.Reading.{ascii, first, turns};
 ghost use Rattle.reading.specs.Runs.{begins, run};
 
 use crate::class::Class;
@@ -111,6 +111,22 @@ impl<'a> Cursor<'a> {
         ensures { option_map code_of result ≡ first self.now }
     {
         front(self.bytes)
+    }
+
+    /// The character that stands next, if it is one of ASCII, as a byte; the cursor stays. Nothing is decoded. `O(1)`.
+    #[inline(always)]
+    #[tactic(auto, using(crate::proofs::Ascii::front_ascii))]
+    pub fn ascii(&self) -> Option<u8>
+        ensures { result ≡ ascii self.now }
+    {
+        let bytes = self.bytes;
+        if !bytes.is_empty() {
+            let byte = bytes[0];
+            if byte < 0x80 {
+                return Some(byte);
+            }
+        }
+        None
     }
 
     /// One more than there are bytes still to read, so more than there are codes: as many turns as a loop may need.

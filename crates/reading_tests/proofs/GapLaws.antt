@@ -52,7 +52,7 @@ slash_is start (d ∷ v) x e =
     let b = bind_ok (comment false start v) (λ y. Ok ((true, tt), y.1)) x k.1 in
     (v, b.0.1, ap (λ (n : ℕ). n ∷ v) (eqb-true d 42 k.0), b.1, ok_is {E = Refused Cause} ((true, tt), b.0.1) x b.2)
 
-blank_other : (c : ℕ) → is_blank c ≡ true → eqb c 47 ≡ false
+pub blank_other : (c : ℕ) → is_blank c ≡ true → eqb c 47 ≡ false
 unfolding is_blank
 blank_other c is = grind (arith, nat_tests)
 
@@ -111,7 +111,7 @@ slash_ends : is_blank 47 ≡ false
 unfolding is_blank
 slash_ends = refl
 
-none_runs : (t : Text) → begins is_gap t ≡ false → gap_turn tt t ≡ Ok ((false, tt), t)
+pub none_runs : (t : Text) → begins is_gap t ≡ false → gap_turn tt t ≡ Ok ((false, tt), t)
 unfolding gap_turn
 none_runs [] e = refl
 none_runs (c ∷ t) e = let b = or_false (eqb c 47) (is_blank c) e in rw (b.0, b.1) refl

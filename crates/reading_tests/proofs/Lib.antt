@@ -7,3 +7,4 @@ pub mod TreeComplete
 pub mod ReadLaws
 pub mod LetterLaws
 pub mod Comments
+pub mod Gaps

@@ -1,12 +1,16 @@
--- Steps of the reader of numbers.
-use Rattle.std.proofs.Common.{◌≡◌, ℕ, ◌+◌, ◌*◌, ◌-◌, ◌<◌, ◌≤◌, Bool, true, false, List, [], ◌∷◌, Ok, refl, ap, ◌∙◌, arith}
+-- Steps of the reader of numbers and of tokens.
+use Rattle.std.proofs.Common.{◌≡◌, ℕ, ◌+◌, ◌*◌, ◌-◌, ◌<◌, ◌≤◌, Bool, true, false, List, [], ◌∷◌, Some, None, Ok, eqb, refl, sym, ap, ◌∙◌, subst, inl, inr, arith}
 use Rattle.std.specs.Prelude.{nat_le, nat_lt}
 use Rattle.std.proofs.lemmas.Bool.Decides.{nat_tests}
-use Rattle.reading.specs.Reading.{Text, refuse}
+use Rattle.reading.specs.Codes.{is_mark, char_of}
+use Rattle.reading.specs.Reading.{Text, refuse, ascii, first}
 use Rattle.reading.specs.Runs.{begins, run}
+use Rattle.reading.proofs.Ascii.{ascii_is, ascii_none, ascii_begins, no_ascii}
 use Rattle.reading.proofs.RunLaws.{run_more, run_stop}
-use Rattle.reading_tests.specs.declared.tree.Cause.TheVariants.{BadNumber}
-use Rattle.reading_tests.specs.Nest.{is_digit, number_from, most, number}
+use Rattle.reading.proofs.Tools.{tested}
+use Rattle.reading_tests.specs.declared.tree.Cause.TheVariants.{BadByte, BadNumber, BadToken}
+use Rattle.reading_tests.specs.declared.token.Token.TheVariants.{End}
+use Rattle.reading_tests.specs.Nest.{is_digit, number_from, most, number, token_of, token_here}
 
 pub number_more : (at : Text) (n c : ℕ) (t : Text) → is_digit c ≡ true → number at n (run is_digit (c ∷ t)) ≡ number at (10 * n + (c - 48)) (run is_digit t)
 unfolding number number_from
@@ -29,4 +33,51 @@ number_past at n c t is past =
     let big : nat_le (number_from (10 * n + (c - 48)) r.0) 999999999 ≡ false = grind (arith, nat_tests) in
     number_more at n c t is ∙ rw big refl
 
-pub ruleset number_laws = (number_more, number_end, number_past)
+digit_low : (c : ℕ) → is_digit c ≡ true → c < 128
+digit_low c is = grind (arith, nat_tests)
+
+pub digit_none : (t : Text) → ascii t ≡ None → begins is_digit t ≡ false
+digit_none t e = no_ascii is_digit t e digit_low
+
+pub ruleset number_laws = (number_more, number_end, number_past, digit_none, ascii_begins, ascii_is)
+
+-- ---- tokens
+
+pub byte_is : (b : ℕ) → b < 256 → is_mark b ≡ false
+byte_is b low = grind (arith, nat_tests)
+
+pub ruleset token_laws = (byte_is)
+
+pub wide_end : (t : Text) → first t ≡ None → token_here t ≡ Ok (End, t)
+unfolding token_here
+wide_end [] e = refl
+wide_end (c ∷ t) e = absurd cc
+
+mark_of_none : (c : ℕ) → char_of c ≡ None → is_mark c ≡ true
+mark_of_none c e = elim (tested (is_mark c)) [ inl is ↦ is | inr other ↦ let f = rw other at e in absurd cc ]
+
+no_mark_of_some : (c d : ℕ) → char_of c ≡ Some d → is_mark c ≡ false
+no_mark_of_some c d e = elim (tested (is_mark c)) [ inl is ↦ let f = rw is at e in absurd cc | inr other ↦ other ]
+
+byte_refused : (c : ℕ) (t : Text) → is_mark c ≡ true → token_here (c ∷ t) ≡ refuse BadByte (c ∷ t)
+unfolding token_here token_of
+byte_refused c t is = rw is refl
+
+high_refused : (c : ℕ) (t : Text) → is_mark c ≡ false → 128 ≤ c → token_here (c ∷ t) ≡ refuse BadToken (c ∷ t)
+unfolding token_here token_of
+high_refused c t other high =
+    let open_ : eqb c 40 ≡ false = grind (arith, nat_tests) in
+    let close : eqb c 41 ≡ false = grind (arith, nat_tests) in
+    let comma : eqb c 44 ≡ false = grind (arith, nat_tests) in
+    let digit : is_digit c ≡ false = grind (arith, nat_tests) in
+    rw (other, open_, close, comma, digit) refl
+
+pub wide_byte : (t : Text) (c : ℕ) → first t ≡ Some c → char_of c ≡ None → token_here t ≡ refuse BadByte t
+wide_byte [] c f e = absurd cc
+wide_byte (d ∷ t) c f e = let same : d ≡ c = cc in byte_refused d t (ap is_mark same ∙ mark_of_none c e)
+
+pub wide_char : (t : Text) (c d : ℕ) → ascii t ≡ None → first t ≡ Some c → char_of c ≡ Some d → token_here t ≡ refuse BadToken t
+wide_char [] c d none f e = absurd cc
+wide_char (b ∷ t) c d none f e = let same : b ≡ c = cc in high_refused b t (ap is_mark same ∙ no_mark_of_some c d e) (ascii_none b t none)
+
+pub ruleset wide_laws = (wide_end, wide_byte, wide_char)

@@ -20,6 +20,9 @@ use Rattle.reading_tests.specs.declared.token.Lexed as code
 unfoldable pub is_blank : ℕ → Bool
 is_blank c = c == 32 || c == 9 || c == 10 || c == 13
 
+abbrev pub is_slash : ℕ → Bool
+is_slash c = c == 47
+
 abbrev pub is_no_star : ℕ → Bool
 is_no_star c = not (c == 42)
 

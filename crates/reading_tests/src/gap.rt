@@ -3,6 +3,7 @@
 ghost use Rattle.std.specs.Prelude.{◌≡◌, true, false};
 ghost use Rattle.reading.specs.Codes.{codes_of, code_of};
 ghost use Rattle.reading.specs.Reading.{Gives};
+ghost use Rattle.reading.specs.Runs.{begins, run};
 ghost use Rattle.reading_tests.specs.Nest as spec;
 
 use crate::tree::Cause;
@@ -34,7 +35,7 @@ impl Class for NoStar {
 
 /// Passes the rest of the comment that began at `start`, whatever its bytes are.
 #[tactic(auto, using(crate::proofs::Comments::comment_laws), unfolding(crate::specs::Nest::comment))]
-#[inline(never)]
+#[inline(always)]
 fn comment<'a>(cursor: &mut Cursor<'a>, start: &'a [u8]) -> Result<(), Stop<'a, Cause>>
     ensures { Gives (λ _. tt) result cursor.new (spec.comment false (codes_of start.now) cursor.old) }
 {
@@ -53,12 +54,15 @@ fn comment<'a>(cursor: &mut Cursor<'a>, start: &'a [u8]) -> Result<(), Stop<'a, 
     Err(Stop::Refused(Cause::Unclosed, start))
 }
 
-/// Passes the comment that begins with the slash at `at`, behind which the cursor stands. It comes seldom, so it stands apart.
-#[tactic(auto, unfolding(crate::specs::Nest::after_slash))]
+/// Passes the comment that begins with the slash that stands next. It comes seldom, so it stands apart.
+#[tactic(auto, unfolding(crate::specs::Nest::gap_turn))]
 #[inline(never)]
-fn after_slash<'a>(cursor: &mut Cursor<'a>, at: &'a [u8]) -> Result<bool, Stop<'a, Cause>>
-    ensures { Gives (λ more. (more, tt)) result cursor.new (spec.after_slash (codes_of at.now) cursor.old) }
+fn slash<'a>(cursor: &mut Cursor<'a>) -> Result<(), Stop<'a, Cause>>
+    requires { begins spec.is_slash cursor.old ≡ true }
+    ensures { Gives (λ _. (true, tt)) result cursor.new (spec.gap_turn tt cursor.old) }
 {
+    let at = cursor.rest();
+    let _ = cursor.next();
     let Some(star) = cursor.next() else {
         return Err(Stop::Refused(Cause::BadToken, at));
     };
@@ -66,41 +70,30 @@ fn after_slash<'a>(cursor: &mut Cursor<'a>, at: &'a [u8]) -> Result<bool, Stop<'
         return Err(Stop::Refused(Cause::BadToken, at));
     }
     comment(cursor, at)?;
-    Ok(true)
+    Ok(())
 }
 
-/// Passes blanks or one comment, if they come next.
-#[tactic(auto, using(reading::proofs::RunLaws::pass_laws), unfolding(crate::specs::Nest::gap_turn))]
+/// Passes all blanks that come next; whether a slash stands behind them.
+#[tactic(auto, using(crate::proofs::Gaps::slash_laws))]
 #[inline(always)]
-fn blank_or_comment<'a>(cursor: &mut Cursor<'a>) -> Result<bool, Stop<'a, Cause>>
-    ensures { Gives (λ more. (more, tt)) result cursor.new (spec.gap_turn tt cursor.old) }
+fn blanks(cursor: &mut Cursor<'_>) -> bool
+    ensures left { cursor.new ≡ (run spec.is_blank cursor.old).1 }
+    ensures slash { result ≡ begins spec.is_slash cursor.new }
 {
-    let at = cursor.rest();
-    let Some(code) = cursor.peek() else {
-        return Ok(false);
-    };
-    if code.is('/') {
-        let _ = cursor.next();
-        return after_slash(cursor, at);
-    }
-    if Blank.has(code) {
-        let _ = cursor.next();
-        cursor.pass_run(&Blank);
-        return Ok(true);
-    }
-    Ok(false)
+    cursor.pass_run(&Blank);
+    matches!(cursor.ascii(), Some(b'/'))
 }
 
-/// Passes all blanks and comments that come next.
-#[tactic(auto, using(reading::proofs::Each::each_laws), unfolding(crate::specs::Nest::gap))]
+/// Passes all blanks and comments that come next. What goes to `slash` is a copy of the cursor, so that the caller's stays in registers.
+#[tactic(auto, using(crate::proofs::Gaps::gap_laws))]
 #[inline(always)]
 pub(crate) fn gap<'a>(cursor: &mut Cursor<'a>) -> Result<(), Stop<'a, Cause>>
     ensures { Gives (λ _. tt) result cursor.new (spec.gap cursor.old) }
 {
-    for _ in 0..cursor.turns() {
-        if !blank_or_comment(cursor)? {
-            return Ok(());
-        }
+    while blanks(cursor) {
+        let mut here = Cursor::new(cursor.rest());
+        slash(&mut here)?;
+        *cursor = here;
     }
-    Err(Stop::Refused(Cause::BadToken, cursor.rest()))
+    Ok(())
 }

@@ -52,7 +52,10 @@ fn tree<'a>(
             if depth == 0 {
                 return Err(Stop::Refused(Cause::TooDeep, first.at));
             }
-            list(alloc, depth - 1, first.at, cursor)
+            let mut here = Cursor::new(cursor.rest());
+            let found = list(alloc, depth - 1, first.at, &mut here)?;
+            *cursor = here;
+            Ok(found)
         }
         other => Err(misplaced(outer, other, first.at)),
     }
@@ -69,23 +72,28 @@ fn list<'a>(
 ) -> Result<Tree, Stop<'a, Cause>>
     ensures { Gives (λ x. x) result cursor.new (spec.list (spec.tree depth) (codes_of at.now) cursor.old) }
 {
-    let first = next_token(cursor)?;
+    let mut here = Cursor::new(cursor.rest());
+    let first = next_token(&mut here)?;
     let mut items = Items::new(alloc);
     if let Token::Close = first.token {
+        *cursor = here;
         return Ok(Tree::List(items));
     }
-    items.push(tree(alloc, depth, Some(at), first, cursor)?)?;
-    for _ in 0..cursor.turns() {
-        let next = next_token(cursor)?;
+    items.push(tree(alloc, depth, Some(at), first, &mut here)?)?;
+    for _ in 0..here.turns() {
+        let next = next_token(&mut here)?;
         match next.token {
-            Token::Close => return Ok(Tree::List(items)),
+            Token::Close => {
+                *cursor = here;
+                return Ok(Tree::List(items));
+            }
             Token::Comma => {}
             other => return Err(misplaced(Some(at), other, next.at)),
         }
-        let first = next_token(cursor)?;
-        items.push(tree(alloc, depth, Some(at), first, cursor)?)?;
+        let first = next_token(&mut here)?;
+        items.push(tree(alloc, depth, Some(at), first, &mut here)?)?;
     }
-    Err(Stop::Refused(Cause::BadToken, cursor.rest()))
+    Err(Stop::Refused(Cause::BadToken, here.rest()))
 }
 
 #[tactic(auto, unfolding(crate::specs::Nest::whole))]

@@ -1,8 +1,9 @@
-use Rattle.std.proofs.Common.{◌≡◌, ◌-◌}
-use Rattle.reading.specs.Reading.{each}
-use Rattle.reading_tests.specs.declared.tree.Cause.TheVariants.{BadToken}
-use Rattle.reading_tests.specs.Nest.{gap_turn, gap}
+use Rattle.std.proofs.Common.{◌≡◌, length}
+use Rattle.reading_tests.specs.Nest.{gap}
 use Rattle.reading_tests.proofs.gap.gap.Given as goal
 
-abbrev pub invariant-loop : goal.invariant-loop
-invariant-loop l = gap l.fn.cursor ≡ each BadToken gap_turn (l.end - l.counter) tt l.cursor
+abbrev pub invariant-loop-cursor : goal.invariant-loop-cursor
+invariant-loop-cursor l = gap l.fn.cursor ≡ gap l.cursor
+
+abbrev pub decreases-loop-cursor : goal.decreases-loop-cursor
+decreases-loop-cursor l = length l.cursor

@@ -14,4 +14,4 @@ decreases-list l = 2 * l.depth + 1
 abbrev pub invariant-list-loop : goal.invariant-list-loop
 invariant-list-loop l =
     list (tree l.fn.depth) (codes_of l.fn.at) l.fn.cursor
-    ≡ (each BadToken (list_turn (tree l.fn.depth) (codes_of l.fn.at)) (l.end - l.counter) l.items l.cursor >>= list_end)
+    ≡ (each BadToken (list_turn (tree l.fn.depth) (codes_of l.fn.at)) (l.end - l.counter) l.items l.here >>= list_end)

@@ -7,9 +7,11 @@ pub mod Loops
 pub mod Making
 pub mod Outcomes
 pub mod Powers
+pub mod Raising
 pub mod Repeating
 pub mod RunLemmas
 pub mod Runs
+pub mod Searches
 pub mod Shifts
 pub mod Siding
 pub mod Spelling

@@ -1,4 +1,5 @@
 pub mod Machine
 pub mod Matching
 pub mod Programs
+pub mod Searching
 pub mod Trees

@@ -12,6 +12,8 @@
 mod machine;
 mod matcher;
 mod program;
+mod range;
+mod search;
 mod set;
 mod tree;
 

@@ -1,11 +1,13 @@
 ghost use Rattle.std.specs.Prelude.{◌≡◌, ◌↔◌, IfOk, OnOk, IsTrue, chars, length, vec_len};
 ghost use Rattle.pattern_tree.specs.Matching.{Matches};
-ghost use Rattle.pattern_tree.specs.Trees.{values, hits_in};
+ghost use Rattle.pattern_tree.specs.Trees.{values};
+ghost use Rattle.pattern_tree.specs.Searching.{found_in, AreInOrder};
 ghost use Rattle.pattern_tree.specs.Machine.{reached_of, taken, begun, is_matched};
 
 use crate::machine::{Kept, pass};
 use crate::program::{Op, Part, compile};
-use crate::set::{push_hits, push_sets};
+use crate::search::{SearchSet, push_hits, search_sets};
+use crate::set::push_sets;
 use crate::tree::{Set, Tree};
 use ifc_base::Memory;
 use std::alloc::Global;
@@ -58,11 +60,14 @@ struct Room {
 /// induction. A tree in which an alternation has no sides, or a repeat permits no number, is apart: such a
 /// node is 2 steps and may weigh nothing.
 ///
-/// A character is also held against each set once, in `O(r)` for the `r` parts of all sets; there are at
-/// most `w` sets. So it takes `O(w + r)` time for each character of the text, with no recursion. Before the
-/// first one the program is made, in `O(d w + p)` for a tree of depth `d` with `p` nodes, by a recursion as
-/// deep as the tree: steps are moved once where a part stands behind or beside others and where a fork or
-/// a repeat begins, and are handed on where a part stands alone. Memory is `O(w)`, whatever the text.
+/// Each set is asked once for each character, whatever the number of its copies, by a binary search in its
+/// ranges, which are put in order before the first character, and by at most six named classes: `O(s log q)`
+/// for `s` sets, of which there are at most `w`, and `q` parts of the largest. So a character takes
+/// `O(w + s log q)` time, with no recursion. Before the first one the program is made, in `O(d w + p)` for a
+/// tree of depth `d` with `p` nodes, by a recursion as deep as the tree: steps are moved once where a part
+/// stands behind or beside others and where a fork or a repeat begins, and are handed on where a part stands
+/// alone. The sets are made ready in `O(r log q)` for the `r` parts of all. Memory is `O(w + r)`, whatever the
+/// text.
 pub fn matches(alloc: Global, tree: &Tree, text: &str) -> Result<bool, Memory>
     ensures { IfOk result (λ answer. IsTrue answer ↔ Matches tree.now (chars text.now)) }
 {
@@ -77,6 +82,7 @@ pub fn matches(alloc: Global, tree: &Tree, text: &str) -> Result<bool, Memory>
 fn runs_to_end(alloc: Global, sets: &[&Set], part: &Part, text: &str) -> Result<bool, Memory>
     ensures { IfOk result (λ answer. answer ≡ is_matched (values sets.now) part.now (chars text.now)) }
 {
+    let searches = search_sets(alloc, sets)?;
     let ops = part.ops.as_slice();
     let mut progress = Progress {
         marks: vec![in alloc; false; ops.len()]?,
@@ -88,23 +94,24 @@ fn runs_to_end(alloc: Global, sets: &[&Set], part: &Part, text: &str) -> Result<
         kept: Vec::new(alloc),
     };
     for c in text.chars() {
-        take(sets, ops, &mut progress, &mut room, c)?;
+        take(searches.as_slice(), ops, &mut progress, &mut room, c)?;
     }
     Ok(progress.ends)
 }
 
 /// Takes one character.
 fn take(
-    sets: &[&Set],
+    sets: &[SearchSet],
     ops: &[Op],
     progress: &mut Progress,
     room: &mut Room,
     c: char,
 ) -> Result<(), Memory>
-    requires { vec_len progress.old.marks ≡ length ops.now }
+    requires ordered { AreInOrder sets.now }
+    requires marked { vec_len progress.old.marks ≡ length ops.now }
     ensures size { vec_len progress.new.marks ≡ length ops.now }
     ensures reached { OnOk result
-        (reached_of progress.new ≡ taken (hits_in (values sets.now)) ops.now (reached_of progress.old) c) }
+        (reached_of progress.new ≡ taken (found_in sets.now) ops.now (reached_of progress.old) c) }
 {
     room.hits.clear();
     push_hits(sets, c, &mut room.hits)?;

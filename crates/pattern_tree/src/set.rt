@@ -1,9 +1,8 @@
 ghost use Rattle.std.specs.Prelude.{◌≡◌, map, ◌++◌, OnOk};
-ghost use Rattle.std.specs.List.{list_any};
-ghost use Rattle.pattern_tree.specs.Trees.{is_digit, is_word, is_space, is_of_class, is_in_part, is_of};
-ghost use Rattle.pattern_tree.specs.Trees.{values, sets_of, one_after_another, hits_in};
+ghost use Rattle.pattern_tree.specs.Trees.{is_digit, is_word, is_space, is_of_class};
+ghost use Rattle.pattern_tree.specs.Trees.{values, sets_of, one_after_another};
 
-use crate::tree::{Class, Part, Set, Tree};
+use crate::tree::{Class, Set, Tree};
 use ifc_base::Memory;
 
 /// A digit, 0 to 9.
@@ -29,7 +28,7 @@ fn is_space(c: char) -> bool
 
 /// Whether the character is of the class. `O(1)`.
 #[tactic(auto, unfolding(crate::specs::Trees::is_of_class))]
-fn is_of_class(class: Class, c: char) -> bool
+pub(crate) fn is_of_class(class: Class, c: char) -> bool
     ensures { result ≡ is_of_class class c }
 {
     match class {
@@ -40,32 +39,6 @@ fn is_of_class(class: Class, c: char) -> bool
         Class::NotWord => !is_word(c),
         Class::NotSpace => !is_space(c),
     }
-}
-
-/// Whether the character is in the part. `O(1)`.
-#[tactic(auto, unfolding(crate::specs::Trees::is_in_part))]
-fn is_in_part(part: Part, c: char) -> bool
-    ensures { result ≡ is_in_part c part }
-{
-    match part {
-        Part::Range(first, last) => first <= c && c <= last,
-        Part::Class(class) => is_of_class(class, c),
-    }
-}
-
-/// Whether the character is in one of the parts.
-fn is_in_any(parts: &[Part], c: char) -> bool
-    ensures { result ≡ list_any (is_in_part c) parts.now }
-{
-    parts.iter().any(|part| is_in_part(*part, c))
-}
-
-/// Whether the set holds the character. `O(n)` in the number of its parts.
-fn is_of(set: &Set, c: char) -> bool
-    ensures { result ≡ is_of set.now c }
-{
-    let found = is_in_any(set.parts.as_slice(), c);
-    if set.negated { !found } else { found }
 }
 
 /// Appends the sets of the pattern's single-character parts, from left to right. `O(n)` in the number of
@@ -92,16 +65,6 @@ fn push_all_sets<'a>(trees: &'a [Tree], sets: &mut Vec<&'a Set>) -> Result<(), M
 {
     for tree in trees {
         push_sets(tree, sets)?;
-    }
-    Ok(())
-}
-
-/// Appends, for each of the sets, whether it holds the character. `O(n)` in the number of their parts.
-pub(crate) fn push_hits(sets: &[&Set], c: char, hits: &mut Vec<bool>) -> Result<(), Memory>
-    ensures { OnOk result (hits.new.items ≡ hits.old.items ++ hits_in (values sets.now) c) }
-{
-    for set in sets {
-        hits.push(is_of(set, c))?;
     }
     Ok(())
 }

@@ -74,48 +74,28 @@ impl Value {
     pub fn copy(&self, alloc: Global) -> Result<Value, Memory>
         ensures { IfOk result (λ copy. copy ≡ self.now) }
     {
-        match &self.node {
-            ValueNode::Absent => Ok(Value {
-                node: ValueNode::Absent,
-            }),
-            ValueNode::Derived => Ok(Value {
-                node: ValueNode::Derived,
-            }),
-            ValueNode::Int(number) => Ok(Value {
-                node: ValueNode::Int(*number),
-            }),
-            ValueNode::Real(number) => Ok(Value {
-                node: ValueNode::Real(*number),
-            }),
-            ValueNode::Text(text) => Ok(Value {
-                node: ValueNode::Text(text.copy(alloc)?),
-            }),
-            ValueNode::Enumer(name) => Ok(Value {
-                node: ValueNode::Enumer(name.copy(alloc)?),
-            }),
-            ValueNode::Binary(digits) => Ok(Value {
-                node: ValueNode::Binary(digits.copy(alloc)?),
-            }),
-            ValueNode::Ref(id) => Ok(Value {
-                node: ValueNode::Ref(*id),
-            }),
+        let node = match &self.node {
+            ValueNode::Absent => ValueNode::Absent,
+            ValueNode::Derived => ValueNode::Derived,
+            ValueNode::Int(number) => ValueNode::Int(*number),
+            ValueNode::Real(number) => ValueNode::Real(*number),
+            ValueNode::Text(text) => ValueNode::Text(text.copy(alloc)?),
+            ValueNode::Enumer(name) => ValueNode::Enumer(name.copy(alloc)?),
+            ValueNode::Binary(digits) => ValueNode::Binary(digits.copy(alloc)?),
+            ValueNode::Ref(id) => ValueNode::Ref(*id),
             ValueNode::List(items) => {
                 let mut copies = Items::new(alloc);
                 for item in items.as_slice() {
                     copies.push(item.copy(alloc)?)?;
                 }
-                Ok(Value {
-                    node: ValueNode::List(copies),
-                })
+                ValueNode::List(copies)
             }
             ValueNode::Typed(name, inner) => {
                 let name = name.copy(alloc)?;
-                let inner = Boxed::new(alloc, inner.get().copy(alloc)?)?;
-                Ok(Value {
-                    node: ValueNode::Typed(name, inner),
-                })
+                ValueNode::Typed(name, Boxed::new(alloc, inner.get().copy(alloc)?)?)
             }
-        }
+        };
+        Ok(Value { node })
     }
 }
 

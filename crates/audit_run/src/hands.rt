@@ -1,7 +1,8 @@
 ghost use Rattle.std.specs.Prelude.{◌≡◌, ◌≤◌, [], vec_len, vec_capacity};
 ghost use Rattle.std.specs.List.{position};
 ghost use Rattle.std.specs.Option.{option_map};
-ghost use Rattle.audit_run.specs.Holding.{begun_on, claim_of, draft_of, drafted_by, taken_as, taken_by, other_claims, other_drafts};
+ghost use Rattle.audit_run.specs.Holding.{begun_on, draft_of, drafted_by, other_drafts};
+ghost use Rattle.audit_run.specs.Holding.{taken_as, claim_of, taken_by, other_claims};
 
 use model_view::{Claim, Snapshot};
 use std::alloc::Global;

@@ -1,30 +1,32 @@
 -- What each line leaves.
-use Rattle.std.proofs.Common.{◌≡◌, ℕ, zero, suc, ◌≤◌, ◌+◌, Bool, true, false, cond, List, [], ◌∷◌, ◌++◌, length, Option, Some, None, Result, Ok, Err, ◌⊎◌, inl, inr, arith, refl, ap, sym, subst, ◌∙◌}
+use Rattle.std.proofs.Common.{◌≡◌, ℕ, zero, suc, ◌≤◌, ◌+◌, Bool, true, false, cond, ◌==◌, List, [], ◌∷◌, ◌++◌, length, Option, Some, None, Err, ◌⊎◌, inl, inr, arith, refl, ap, sym, subst, ◌∙◌}
+use Rattle.std.specs.List.{cons_option}
 use Rattle.audit_model.specs.declared.commit.Edit.{Edit}
 use Rattle.audit_model.specs.declared.step.StepRec.{StepRec}
 use Rattle.audit_model.specs.declared.step.Given.{Given}
 use Rattle.audit_model.specs.declared.step.Call.TheVariants as call
 use Rattle.audit_model.specs.declared.step.Reply.{Reply}
 use Rattle.audit_model.specs.declared.step.Reply.TheVariants as reply
-use Rattle.audit_model.specs.History.{Ground, out, revision, commits}
-use Rattle.audit_model.specs.Machine.{Legal, claim_reply, commit_reply, is_full}
+use Rattle.audit_model.specs.History.{Ground, accepted, model_at, out, revision, commits}
+use Rattle.audit_model.specs.Machine.{Legal, claim_reply, is_full}
 use Rattle.audit_model.specs.ScriptLines.{Place, place, entry}
-use Rattle.audit_model.specs.Serial.{Done, done, ended, with_room, after_claim, rounds, commit_done, give_done}
+use Rattle.audit_model.specs.Serial.{Done, done, ended, with_room, after_claim, rounds, commit_done}
+use Rattle.audit_model.proofs.Claims.{IsSound, sound_out}
+use Rattle.audit_model.proofs.HistoryLaws.{earlier_models_stay}
+use Rattle.audit_model.proofs.Tests.{Each-found}
 use Rattle.model_view.specs.Views.{DraftView, FindingView}
 use Rattle.model_view.specs.declared.answers.Halt.{Halt}
 use Rattle.model_view.specs.declared.answers.Halt.TheVariants as halt
 use Rattle.audit_core.specs.Cores.{CoreView}
-use Rattle.audit_core.specs.Steps.{Adds, Unchanged, IsHalted}
-use Rattle.audit_run.specs.declared.hands.Taken.{Taken}
-use Rattle.audit_run.proofs.HoldLaws.{LeavesOut, all_taken, revision_grows}
+use Rattle.audit_core.specs.Steps.{Adds, Unchanged, IsHalted, given_of}
 use Rattle.serial_run.specs.declared.editor.Editor.{Editor}
 use Rattle.serial_run.specs.declared.editor.Held.{Held}
 use Rattle.serial_run.specs.declared.editor.Held.TheVariants as held
 use Rattle.serial_run.specs.Growth.{IsLater, returns, returned}
 use Rattle.serial_run.specs.Editing.{IsSoFar, HoldsIn, HoldsReady, WorksIn, draft_of, held_of, place_of, is_holding}
-use Rattle.serial_run.specs.Course.{IsReturned, IsStopped, IsDone, AreRounds, Leads, Works}
-use Rattle.serial_run.specs.Turns.{IsFree, IsCutTurn, HandsIn, StopsTurn, has_room, claim_entry}
-use Rattle.serial_run.proofs.Growing.{same, one_more, joined, roomy, rounds_grow, commit_grows, give_grows}
+use Rattle.serial_run.specs.Course.{IsReturned, IsStopped, IsDone, AreRounds}
+use Rattle.serial_run.specs.Turns.{IsFree, HandsIn, StopsTurn, has_room, claim_entry}
+use Rattle.serial_run.proofs.Growing.{same, one_more, roomy, rounds_grow}
 use Rattle.serial_run.proofs.Turning.{legal_next}
 
 -- Stops.
@@ -66,17 +68,15 @@ halted_stop {old = old} halt.Memory n p d later k r = stopped_before (with_room 
 
 -- Commits.
 
-one_taken : ℕ → Held → List Taken
-one_taken who held.Nothing = []
-one_taken who held.Idle = []
-one_taken who (held.Found f) = record { actor = who; claim = f.claim } ∷ []
-
 -- what is held stays ready behind an entry that leaves all claims out
 ready_on : (g : Ground) (h : List StepRec) (who : ℕ) (base : ℕ) (edits : List Edit) (told : Reply) (x : Held) → Legal g h → HoldsReady g h who x → HoldsReady g (entry who (call.Commit base edits) told ∷ h) who x
 ready_on g h who base edits told held.Nothing l k = tt
 ready_on g h who base edits told held.Idle l k = tt
 ready_on g h who base edits told (held.Found f) l k =
-    ((all_taken g h (entry who (call.Commit base edits) told) (record { actor = who; claim = f.claim } ∷ []) l ((λ e. e), tt) (k.0, (tt, tt))).0, k.1)
+    let early : f.claim.snapshot.revision ≤ revision h = (Each-found (IsSound g (commits h)) (λ c. c.number == f.claim.number) (out h) (given_of who f.claim) (sound_out g h l) k.0.is_out).early in
+    let stays : model_at g h f.claim.snapshot.revision ≡ model_at g (entry who (call.Commit base edits) told ∷ h) f.claim.snapshot.revision =
+    sym (earlier_models_stay g (entry who (call.Commit base edits) told ∷ []) h f.claim.snapshot.revision early) in
+    (record { is_out = k.0.is_out; snapshot_is = k.0.snapshot_is ∙ stays }, k.1)
 
 pub committed : {old new : CoreView} {who : ℕ} (e : Editor) (draft : DraftView) (told : Reply) → WorksIn old who e → e.draft ≡ Some draft → is_full old.ground old.history 1 ≡ false → Adds old new (entry who (call.Commit draft.base.revision draft.edits) told) →
     IsDone (commit_done old.ground who (draft_of e.draft) (place_of e) old.history) old new who (record { draft = None; held = e.held })
@@ -161,6 +161,9 @@ rounds_place g who (suc n) p h =
     let d : Done = after_claim g who (claim_reply g h) h p (rounds g who n p) in
     let e : d.place ≡ p = after_place g who (claim_reply g h) h p (rounds g who n p) (λ k. rounds_place g who n p k) in
     elim (is_full g h 2) as (λ b. (cond b (ended h p) d).place ≡ p) [ true ↦ refl | false ↦ e ]
+
+revision_grows : (e : StepRec) (h : List StepRec) → revision h ≤ revision (e ∷ h)
+revision_grows e h = elim (accepted e) as (λ o. length (commits h) ≤ length (cons_option o (commits h))) [ None ↦ omega arith | Some edits ↦ omega arith ]
 
 revision_later : (es h : List StepRec) → revision h ≤ revision (es ++ h)
 revision_later [] h = omega arith

@@ -1,21 +1,19 @@
 -- The drain at the end of a phase.
-use Rattle.std.proofs.Common.{◌≡◌, ℕ, zero, suc, ◌≤◌, ◌+◌, Bool, true, false, cond, List, [], ◌∷◌, ◌++◌, length, reverse, Option, Some, None, Result, Ok, Err, ◌⊎◌, inl, inr, arith, refl, ap, sym, subst, ◌∙◌}
-use Rattle.std.proofs.lemmas.List.{append_assoc, reverse-append}
+use Rattle.std.proofs.Common.{◌≡◌, ℕ, suc, ◌+◌, Bool, true, false, cond, List, [], ◌∷◌, ◌++◌, length, reverse, Ok, ◌⊎◌, inl, inr, arith, refl, ap, sym, subst, ◌∙◌}
 use Rattle.std.proofs.lemmas.Bool.{true≢false}
 use Rattle.audit_model.specs.declared.verdict.Pair.{Pair}
 use Rattle.audit_model.specs.declared.step.StepRec.{StepRec}
 use Rattle.audit_model.specs.declared.step.Given.{Given}
-use Rattle.audit_model.specs.declared.step.Call.{Call}
 use Rattle.audit_model.specs.declared.step.Call.TheVariants as calls
 use Rattle.audit_model.specs.declared.step.Reply.{Reply}
 use Rattle.audit_model.specs.declared.step.Reply.TheVariants.{Claimed, Idle, Used, Pending, Report}
 use Rattle.audit_model.specs.Drain.{caller_entry, drain_from, drain_after, unsettled}
 use Rattle.audit_model.specs.History.{Ground, out, given, revision, model_at}
-use Rattle.audit_model.specs.Machine.{Legal, publish_reply, is_full, pairs_now}
+use Rattle.audit_model.specs.Machine.{publish_reply, is_full, pairs_now}
 use Rattle.audit_model.specs.Report.{audit_text}
 use Rattle.audit_model.specs.RunLaws.{DrainEnds}
-use Rattle.audit_model.specs.ScriptLines.{Place, entry, free}
-use Rattle.audit_model.specs.Serial.{Done, done, ended, with_room, rounds, and_then, publish_done, drain_done}
+use Rattle.audit_model.specs.ScriptLines.{entry, free}
+use Rattle.audit_model.specs.Serial.{Done, done, ended, rounds, publish_done, drain_done}
 use Rattle.audit_model.specs.Telling.{Told, told, is_of_one_editor}
 use Rattle.model_view.specs.declared.answers.Halt.{Halt}
 use Rattle.model_view.specs.declared.answers.Halt.TheVariants as halt
@@ -25,8 +23,8 @@ use Rattle.serial_run.specs.Growth.{IsLater, returns, returned}
 use Rattle.serial_run.specs.Quiet.{GoesOn}
 use Rattle.serial_run.specs.Course.{IsStopped, AreRounds}
 use Rattle.serial_run.specs.Turns.{IsFree}
-use Rattle.serial_run.specs.Running.{Drains, IsReported, IsSound, ends_now}
-use Rattle.serial_run.proofs.Growing.{same, one_more, joined, roomy, rounds_grow}
+use Rattle.serial_run.specs.Running.{Drains, IsSound, ends_now}
+use Rattle.serial_run.proofs.Growing.{turned, same, one_more, joined, roomy, rounds_grow}
 use Rattle.serial_run.proofs.Quieting.{rounds_quiet, told_nothing, one_editor}
 use Rattle.serial_run.proofs.Turning.{legal_next}
 
@@ -121,9 +119,6 @@ rounds_halted {old = old} new why k =
       full halt.Memory f = tt
 
 -- The drain ends with a report.
-
-turned : (e : StepRec) (es h : List StepRec) → reverse (e ∷ es) ++ h ≡ reverse es ++ (e ∷ h)
-turned e es h = ap (λ (xs : List StepRec). xs ++ h) (reverse-append (e ∷ []) es) ∙ append_assoc (reverse es) (e ∷ []) h
 
 last_is : (n r : ℕ) (ps : List Pair) (h : List StepRec) → (rest : List StepRec) × (reverse (drain_from n r ps) ++ h ≡ caller_entry calls.Publish (Report r) ∷ rest)
 last_is n r [] h = (caller_entry calls.Claim Idle ∷ h, refl)

@@ -1,21 +1,20 @@
 -- A phase, from its lines to its report.
-use Rattle.std.proofs.Common.{◌≡◌, ℕ, Bool, true, false, cond, List, [], ◌∷◌, ◌++◌, Result, Ok, Err, refl, ap, sym, subst, ◌∙◌}
+use Rattle.std.proofs.Common.{◌≡◌, ℕ, false, List, [], ◌++◌, Ok, refl, ap, sym, subst, ◌∙◌}
 use Rattle.std.proofs.lemmas.List.{append_assoc}
 use Rattle.audit_model.specs.declared.step.StepRec.{StepRec}
 use Rattle.audit_model.specs.declared.step.Given.{Given}
 use Rattle.audit_model.specs.declared.script.ScriptLine.{ScriptLine}
-use Rattle.audit_model.specs.History.{Ground, out}
-use Rattle.audit_model.specs.ScriptLines.{Place, free}
+use Rattle.audit_model.specs.ScriptLines.{free}
 use Rattle.audit_model.specs.Serial.{Done, drain_done, Run, moved, lines_run, sync_run}
-use Rattle.audit_model.specs.Telling.{Told, told, is_of_one_editor}
+use Rattle.audit_model.specs.Telling.{told}
 use Rattle.model_view.specs.declared.answers.Halt.{Halt}
 use Rattle.model_view.specs.declared.answers.Halt.TheVariants as halt
 use Rattle.audit_core.specs.Cores.{CoreView}
-use Rattle.serial_run.specs.Growth.{IsLater, returns, returned}
+use Rattle.serial_run.specs.Growth.{IsLater, returns}
 use Rattle.serial_run.specs.Course.{IsStopped}
 use Rattle.serial_run.specs.Running.{AtRun, Drains, IsPhase, IsReached, Tells, done_of}
 use Rattle.serial_run.proofs.Growing.{same, lines_grow, sync_grows, drain_grows}
-use Rattle.serial_run.proofs.Phasing.{stop_later}
+use Rattle.serial_run.proofs.Phasing.{stop_later, sync_full, sync_on}
 
 -- a run that has come to this core
 pub any_run : CoreView → Run
@@ -24,12 +23,6 @@ any_run core = record { history = core.history; places = λ who. free; full = fa
 pub at_any : (core : CoreView) → AtRun (any_run core) core free
 unfolding any_run
 at_any core = record { history = refl; going = refl; place_is = refl }
-
-sync_full : (g : Ground) (s : Run) → s.full ≡ true → sync_run g s ≡ s
-sync_full g s e = ap (λ (b : Bool). cond b s (moved 0 s (drain_done g s.history))) e
-
-sync_is : (g : Ground) (s : Run) → s.full ≡ false → sync_run g s ≡ moved 0 s (drain_done g s.history)
-sync_is g s e = ap (λ (b : Bool). cond b s (moved 0 s (drain_done g s.history))) e
 
 -- a stop within the lines
 pub stopped_in_lines : {old : CoreView} (new : CoreView) (why : Halt) (t : Run) → IsLater old.history t.history → IsStopped why (done_of t) old new → IsStopped why (done_of (sync_run old.ground t)) old new
@@ -42,7 +35,7 @@ since_lines {old = old} {mid = mid} s lines a r =
     subst (λ (h : List StepRec). IsLater h mid.history) a.history (subst (λ (h : List StepRec). IsLater s.history h) r.at.history (lines_grow old.ground lines s))
 
 drained_run : {old mid : CoreView} (t : Run) → IsReached t old mid → sync_run old.ground t ≡ moved 0 t (drain_done mid.ground mid.history)
-drained_run {old = old} t r = sync_is old.ground t r.at.going ∙ (λ i. moved 0 t (drain_done (sym r.ground i) (r.at.history i)))
+drained_run {old = old} t r = sync_on old.ground t r.at.going ∙ (λ i. moved 0 t (drain_done (sym r.ground i) (r.at.history i)))
 
 -- a stop within the drain
 pub stopped_in_drain : {old mid : CoreView} (new : CoreView) (why : Halt) (s : Run) (lines : List ScriptLine) → AtRun s old free → IsReached (lines_run old.ground lines s) old mid → IsStopped why (drain_done mid.ground mid.history) mid new → IsStopped why (done_of (sync_run old.ground (lines_run old.ground lines s))) old new

@@ -1,5 +1,5 @@
 -- A whole run of a script.
-use Rattle.std.proofs.Common.{◌≡◌, ℕ, zero, suc, ◌<◌, ◌≤◌, ◌+◌, ◌-◌, Bool, true, false, cond, ◌&&◌, ◌==◌, List, [], ◌∷◌, ◌++◌, take, drop, length, length-append, reverse, codes, Option, Some, None, arith, refl, ap, sym, subst, ◌∙◌}
+use Rattle.std.proofs.Common.{◌≡◌, ℕ, ◌<◌, ◌≤◌, ◌+◌, ◌-◌, Bool, true, false, cond, ◌==◌, List, [], ◌∷◌, ◌++◌, take, drop, length, length-append, reverse, codes, Option, Some, None, arith, refl, ap, sym, subst, ◌∙◌}
 use Rattle.std.specs.Option.{option_map}
 use Rattle.std.specs.Fmt.{decimal}
 use Rattle.std.proofs.Math.Seq.{drop-append_seam}
@@ -9,18 +9,16 @@ use Rattle.ifc_base.specs.declared.value.Instance.{Instance}
 use Rattle.shelf_io.specs.Pieces.{Appended}
 use Rattle.audit_model.specs.declared.specification.Specification.{Specification}
 use Rattle.audit_model.specs.declared.step.StepRec.{StepRec}
-use Rattle.audit_model.specs.declared.step.Given.{Given}
-use Rattle.audit_model.specs.declared.script.ScriptLine.{ScriptLine}
 use Rattle.audit_model.specs.declared.script.Phase.{Phase}
 use Rattle.audit_model.specs.History.{Ground, out}
 use Rattle.audit_model.specs.Machine.{Legal}
-use Rattle.audit_model.specs.Output.{ends_phase, entry_text, is_report, report_in, output}
+use Rattle.audit_model.specs.Output.{ends_phase, entry_text, report_in, output}
 use Rattle.audit_model.specs.Report.{audit_text, report_text, all_pass, line, pass_word, tallies_lines}
 use Rattle.audit_model.specs.RunLaws.{OutputIsTold}
 use Rattle.audit_model.specs.Scratch.{scratch}
-use Rattle.audit_model.specs.ScriptLines.{Place, free}
-use Rattle.audit_model.specs.ScriptOrder.{IsOrderly, AreOrderly}
-use Rattle.audit_model.specs.Serial.{Run, fresh, moved, drain_done, lines_run, sync_run, phases_run, serial, meets_full}
+use Rattle.audit_model.specs.ScriptLines.{free}
+use Rattle.audit_model.specs.ScriptOrder.{AreOrderly}
+use Rattle.audit_model.specs.Serial.{Run, fresh, lines_run, sync_run, phases_run, serial}
 use Rattle.audit_model.specs.Telling.{Told, told, is_of_one_editor}
 use Rattle.audit_core.specs.Cores.{CoreView}
 use Rattle.serial_run.specs.Growth.{IsLater, returns, returned}
@@ -34,7 +32,7 @@ use Rattle.serial_run.specs.Course.{IsStopped, IfFull}
 use Rattle.serial_run.specs.Running.{AtRun, IsPhase, done_of}
 use Rattle.serial_run.specs.Runs.{ends, ends_pass, script_history, IsWhole, IsEndedBy, IsRan}
 use Rattle.serial_run.proofs.Growing.{joined, lines_grow, sync_grows, phases_grow}
-use Rattle.serial_run.proofs.Phasing.{if_full, lines_full}
+use Rattle.serial_run.proofs.Phasing.{if_full, phases_full}
 use Rattle.serial_run.proofs.Counting.{Adds, adds_joined, lines_add, sync_adds, full_sync_adds, returned_adds, front_ends, front_alone, later_whole}
 
 -- What is written.
@@ -145,13 +143,6 @@ running_on {g = g} {all = all} {core = core} {new = new} {old = old} {now = now}
 pub none_left : {X : Type 0} (xs : List X) (n : ℕ) → length xs ≡ n → (0 < n → false ≡ true) → reverse xs ≡ []
 none_left [] n e f = refl
 none_left (x ∷ xs) n e f = absurd (true≢false (sym (f (omega (arith, e)))))
-
-pub phases_full : (g : Ground) (ps : List Phase) (s : Run) → s.full ≡ true → phases_run g ps s ≡ s
-phases_full g [] s e = refl
-phases_full g (p ∷ ps) s e =
-    let lines : lines_run g p.lines s ≡ s = lines_full g p.lines s e in
-    let sync : sync_run g s ≡ s = ap (λ (b : Bool). cond b s (moved 0 s (drain_done g s.history))) e in
-    ap (λ (t : Run). phases_run g ps t) (ap (λ (t : Run). sync_run g t) lines ∙ sync) ∙ phases_full g ps s e
 
 -- the output of a journal, by what was told
 output_of : (g : Ground) (h j : List StepRec) → OutputIsTold → j ≡ reverse h → Legal g h → is_of_one_editor h ≡ true → output g j ≡ (told g h).whole

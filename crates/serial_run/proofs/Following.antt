@@ -15,10 +15,10 @@ use Rattle.audit_model.specs.declared.script.ScriptLine.{ScriptLine}
 use Rattle.audit_model.specs.declared.script.Phase.{Phase}
 use Rattle.audit_model.specs.Models.{IsModel}
 use Rattle.audit_model.specs.Pairs.{NumberedFrom}
-use Rattle.audit_model.specs.History.{Ground, revision, given, out, with_claim, without_claim, claim_numbered}
+use Rattle.audit_model.specs.History.{Ground, revision, given, out, with_claim, claim_numbered}
 use Rattle.audit_model.specs.Machine.{Legal, claim_reply, claimed, deliver_reply, publish_reply, commit_reply, least_claimable, is_full}
 use Rattle.audit_model.specs.Drain.{caller_entry, drain_from, drain_after, unsettled}
-use Rattle.audit_model.specs.ScriptLines.{Place, place, free, drafted, number_in, entry, commit_of, deliver_of, Turns, Rounds, Does, FollowsFrom, own}
+use Rattle.audit_model.specs.ScriptLines.{Place, place, free, number_in, entry, commit_of, deliver_of, Turns, Rounds, Does, FollowsFrom, own}
 use Rattle.audit_model.specs.ScriptOrder.{IsOrderly, AreOrderly, may_come, drafts_after, holds_after}
 use Rattle.audit_model.specs.Serial.{Done, done, ended, with_room, given_to, with_delivery, after_delivery, after_claim, rounds, commit_done, give_done, act_done, drain_done, Run, fresh, moved, line_run, lines_run, sync_run, phases_run, serial}
 use Rattle.audit_model.proofs.DrainLaws.{drain_follows}
@@ -26,13 +26,11 @@ use Rattle.audit_model.proofs.RunLaws.{drain_ends}
 use Rattle.audit_model.proofs.RunLegal.{serial_is_legal}
 use Rattle.serial_run.specs.Growth.{IsLater}
 use Rattle.serial_run.specs.Phased.{AllBy, EndsReported, IsPhaseOf, ArePhases, ScriptIsPhased}
-use Rattle.serial_run.proofs.Growing.{sync_grows, phases_grow}
-use Rattle.serial_run.proofs.Phasing.{lines_full}
+use Rattle.serial_run.proofs.Growing.{turned, sync_grows, phases_grow}
+use Rattle.serial_run.proofs.Turning.{given_to_self, none_left}
+use Rattle.serial_run.proofs.Phasing.{drafted_some, lines_full, phases_full}
 
 -- Entries in the order of the journal, and histories.
-
-pub turned : (e : StepRec) (es h : List StepRec) → reverse (e ∷ es) ++ h ≡ reverse es ++ (e ∷ h)
-turned e es h = ap (λ (xs : List StepRec). xs ++ h) (reverse-append (e ∷ []) es) ∙ append_assoc (reverse es) (e ∷ []) h
 
 pub turned_both : (es fs h : List StepRec) → reverse (es ++ fs) ++ h ≡ reverse fs ++ (reverse es ++ h)
 turned_both es fs h = ap (λ (xs : List StepRec). xs ++ h) (reverse-append es fs) ∙ append_assoc (reverse fs) (reverse es) h
@@ -75,9 +73,6 @@ none_held who cs (Some x) e k = absurd (cc)
 pub found_alone : (n : ℕ) (c : Given) → c.number ≡ n → claim_numbered n (c ∷ []) ≡ Some c
 found_alone n c e = ap (λ (b : Bool). cond b (Some c) None) (eq-eqb c.number n e)
 
-given_to_self : (who : ℕ) (c : Given) → c.actor ≡ who → given_to who (Some c) ≡ Some c
-given_to_self who c e = ap (λ (b : Bool). cond b (Some c) None) (eq-eqb c.actor who e)
-
 abbrev pub deliver_entry : Ground → ℕ → ℕ → List StepRec → Given → StepRec
 deliver_entry g who n h c = entry who (calls.Deliver n) (deliver_reply g h c)
 
@@ -87,11 +82,6 @@ delivery_is g who n h c o number actor =
     ap (λ (cs : List Given). with_delivery g who n (given_to who (claim_numbered n cs)) h) o
     ∙ ap (λ (x : Option Given). with_delivery g who n (given_to who x) h) (found_alone n c number)
     ∙ ap (λ (x : Option Given). with_delivery g who n x h) (given_to_self who c actor)
-
--- and none is out behind its delivery
-pub none_left : (n : ℕ) (cs : List Given) (c : Given) → cs ≡ c ∷ [] → c.number ≡ n → without_claim n cs ≡ []
-none_left n cs c o e =
-    ap (λ (xs : List Given). without_claim n xs) o ∙ ap (λ (b : Bool). cond (not b) (c ∷ []) []) (eq-eqb c.number n e)
 
 -- Rounds.
 
@@ -246,10 +236,6 @@ act_goes g who (Work n) p h may k =
     λ going. worked_goes who n p h (rounds g who n p h) (not_true (is_some p.held) may) (rounds_on g who n p h (none_yet who h p may k) going)
 
 -- What a line leaves open.
-
-drafted_some : (e : Edit) (o : Option (ℕ × List Edit)) → is_some (drafted e o) ≡ is_some o
-drafted_some e None = refl
-drafted_some e (Some d) = refl
 
 abbrev pub drafts : Place → Bool
 drafts p = is_some p.draft
@@ -408,15 +394,8 @@ phase_on g ls s numbered ascending at o order legal going =
       at_rest = ap (λ (u : Run). u.places 1) is ∙ f.at_rest;
     }
 
-phases_full : (g : Ground) (ps : List Phase) (s : Run) → s.full ≡ true → (phases_run g ps s).full ≡ true
-phases_full g [] s e = e
-phases_full g (p ∷ ps) s e =
-    let t : Run = lines_run g p.lines s in
-    let full : t.full ≡ true = ap (λ (u : Run). u.full) (lines_full g p.lines s e) ∙ e in
-    phases_full g ps (sync_run g t) (ap (λ (b : Bool). (cond b t (moved 0 t (drain_done g t.history))).full) full ∙ full)
-
 pub phases_going : (g : Ground) (ps : List Phase) (s : Run) → (phases_run g ps s).full ≡ false → s.full ≡ false
-phases_going g ps s e = going_before s.full (λ b. (phases_run g ps s).full) (λ t. phases_full g ps s t) e
+phases_going g ps s e = going_before s.full (λ b. (phases_run g ps s).full) (λ t. ap (λ (u : Run). u.full) (phases_full g ps s t) ∙ t) e
 
 abbrev PhasesFrom : List Phase → List StepRec → Run → Type 0
 PhasesFrom ps h u = (es : List StepRec) × (u.history ≡ reverse es ++ h) × ArePhases ps es

@@ -7,7 +7,7 @@ use Rattle.audit_model.specs.declared.step.StepRec.{StepRec}
 use Rattle.audit_model.specs.declared.step.Given.{Given}
 use Rattle.audit_model.specs.declared.step.Call.TheVariants as calls
 use Rattle.audit_model.specs.declared.step.Reply.{Reply}
-use Rattle.audit_model.specs.declared.step.Reply.TheVariants.{Began, Accepted, Refused, Claimed, Idle, Used, Stale, Back, Pending, Report}
+use Rattle.audit_model.specs.declared.step.Reply.TheVariants.{Began, Claimed, Idle}
 use Rattle.audit_model.specs.declared.script.Act.{Act}
 use Rattle.audit_model.specs.declared.script.Act.TheVariants.{Begin, Change, Commit, Publish, Take, Give, Work}
 use Rattle.audit_model.specs.declared.script.ScriptLine.{ScriptLine}
@@ -19,12 +19,13 @@ use Rattle.audit_model.specs.Machine.{Legal, claim_reply, commit_reply, deliver_
 use Rattle.audit_model.specs.Drain.{drain_after}
 use Rattle.audit_model.specs.ScriptLines.{Place, place, free, number_in, entry, commit_of, deliver_of, Turns, Rounds, Does, FollowsFrom, own}
 use Rattle.audit_model.specs.ScriptOrder.{IsOrderly, AreOrderly, may_come}
-use Rattle.audit_model.specs.Serial.{Done, done, ended, with_room, after_delivery, after_claim, rounds, commit_done, give_done, act_done, Run, fresh, moved, line_run, lines_run, sync_run, phases_run, serial}
+use Rattle.audit_model.specs.Serial.{Done, done, ended, with_room, after_delivery, after_claim, rounds, commit_done, give_done, act_done, Run, fresh, moved, line_run, lines_run, sync_run, phases_run}
 use Rattle.audit_model.proofs.DrainLaws.{drain_follows}
 use Rattle.audit_model.proofs.RunLegal.{serial_is_legal}
 use Rattle.serial_run.specs.Phased.{IsPhaseOf, ArePhases, OnlySerial}
-use Rattle.serial_run.proofs.Growing.{sync_grows, phases_grow}
-use Rattle.serial_run.proofs.Following.{turned, turned_both, legal_before, legal_older, HeldIn, none_yet, not_true, found_alone, deliver_entry, delivery_is, none_left, IfGoing, IsWorked, rounds_on, Goes, act_goes, drafts, holds, own_first, line_is, lines_going, order_on, AreFollowed, lines_follow, sync_going, sync_is, phases_going, IsPhased, phase_on}
+use Rattle.serial_run.proofs.Growing.{turned, phases_grow}
+use Rattle.serial_run.proofs.Turning.{none_left}
+use Rattle.serial_run.proofs.Following.{turned_both, legal_before, legal_older, HeldIn, none_yet, found_alone, deliver_entry, delivery_is, IsWorked, rounds_on, Goes, act_goes, drafts, holds, own_first, line_is, lines_going, order_on, AreFollowed, lines_follow, sync_going, sync_is, phases_going, IsPhased, phase_on}
 
 -- One entry.
 

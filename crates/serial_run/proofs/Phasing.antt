@@ -1,5 +1,5 @@
 -- The lines of a phase.
-use Rattle.std.proofs.Common.{◌≡◌, ℕ, zero, suc, ◌≤◌, ◌+◌, Bool, true, false, cond, not, ◌&&◌, ◌==◌, List, [], ◌∷◌, ◌++◌, length, reverse, Option, Some, None, Result, Ok, Err, is_some, arith, refl, ap, sym, subst, ◌∙◌}
+use Rattle.std.proofs.Common.{◌≡◌, ℕ, ◌+◌, Bool, true, false, cond, not, List, [], ◌∷◌, ◌++◌, reverse, Option, Some, None, Ok, is_some, refl, ap, sym, subst, ◌∙◌}
 use Rattle.std.proofs.lemmas.Bool.{eq-eqb}
 use Rattle.std.proofs.lemmas.List.{reverse-append}
 use Rattle.audit_model.specs.declared.commit.Edit.{Edit}
@@ -9,12 +9,13 @@ use Rattle.audit_model.specs.declared.step.Call.TheVariants as calls
 use Rattle.audit_model.specs.declared.script.Act.{Act}
 use Rattle.audit_model.specs.declared.script.Act.TheVariants.{Begin, Change, Commit, Publish, Take, Give, Work}
 use Rattle.audit_model.specs.declared.script.ScriptLine.{ScriptLine}
+use Rattle.audit_model.specs.declared.script.Phase.{Phase}
 use Rattle.audit_model.specs.History.{Ground, out}
-use Rattle.audit_model.specs.Machine.{Legal, is_full}
+use Rattle.audit_model.specs.Machine.{is_full}
 use Rattle.audit_model.specs.ScriptLines.{Place, place, free, drafted}
 use Rattle.audit_model.specs.ScriptOrder.{IsOrderly, drafts_after, holds_after}
-use Rattle.audit_model.specs.Serial.{Done, done, ended, with_room, act_done, commit_done, give_done, rounds, Run, moved, placed, line_run, lines_run}
-use Rattle.audit_model.specs.Telling.{Told, told, is_of_one_editor}
+use Rattle.audit_model.specs.Serial.{Done, ended, with_room, act_done, commit_done, give_done, rounds, Run, moved, placed, line_run, lines_run, sync_run, phases_run, drain_done}
+use Rattle.audit_model.specs.Telling.{told, is_of_one_editor}
 use Rattle.model_view.specs.Views.{DraftView}
 use Rattle.model_view.specs.declared.answers.Halt.{Halt}
 use Rattle.model_view.specs.declared.answers.Halt.TheVariants as halt
@@ -22,11 +23,11 @@ use Rattle.audit_core.specs.Cores.{CoreView}
 use Rattle.serial_run.specs.declared.editor.Editor.{Editor}
 use Rattle.serial_run.specs.declared.editor.Held.{Held}
 use Rattle.serial_run.specs.declared.editor.Held.TheVariants as held
-use Rattle.serial_run.specs.Growth.{IsLater, returns, returned}
-use Rattle.serial_run.specs.Editing.{WorksIn, HoldsIn, draft_of, held_of, place_of, is_drafting, is_holding}
-use Rattle.serial_run.specs.Course.{IsDone, IsReturned, IsStopped, IfFull}
+use Rattle.serial_run.specs.Growth.{IsLater, returns}
+use Rattle.serial_run.specs.Editing.{WorksIn, draft_of, held_of, place_of, is_drafting, is_holding}
+use Rattle.serial_run.specs.Course.{IsReturned, IsStopped, IfFull}
 use Rattle.serial_run.specs.Turns.{IsFree}
-use Rattle.serial_run.specs.Running.{AtRun, IsReached, Steps, Leads, Tells, done_of}
+use Rattle.serial_run.specs.Running.{AtRun, IsReached, Steps, Tells, done_of}
 use Rattle.serial_run.proofs.Growing.{same, joined, act_grows, lines_grow}
 use Rattle.serial_run.proofs.Acting.{rounds_place, nothing, holds_nothing}
 
@@ -43,7 +44,7 @@ with_room_leaves g n h a p d k not =
     let all : F (is_full g h n) = elim (is_full g h n) as F [ true ↦ λ e. absurd (cc) | false ↦ λ e. k ] in
     all not
 
-drafted_some : (e : Edit) (o : Option (ℕ × List Edit)) → is_some (drafted e o) ≡ is_some o
+pub drafted_some : (e : Edit) (o : Option (ℕ × List Edit)) → is_some (drafted e o) ≡ is_some o
 drafted_some e None = refl
 drafted_some e (Some d) = refl
 
@@ -156,6 +157,18 @@ line_full g x s e = ap (λ (b : Bool). cond b s (moved x.editor s (act_done g x.
 pub lines_full : (g : Ground) (xs : List ScriptLine) (s : Run) → s.full ≡ true → lines_run g xs s ≡ s
 lines_full g [] s e = refl
 lines_full g (x ∷ xs) s e = ap (λ (t : Run). lines_run g xs t) (line_full g x s e) ∙ lines_full g xs s e
+
+pub sync_full : (g : Ground) (s : Run) → s.full ≡ true → sync_run g s ≡ s
+sync_full g s e = ap (λ (b : Bool). cond b s (moved 0 s (drain_done g s.history))) e
+
+-- a run that goes on drains
+pub sync_on : (g : Ground) (s : Run) → s.full ≡ false → sync_run g s ≡ moved 0 s (drain_done g s.history)
+sync_on g s e = ap (λ (b : Bool). cond b s (moved 0 s (drain_done g s.history))) e
+
+pub phases_full : (g : Ground) (ps : List Phase) (s : Run) → s.full ≡ true → phases_run g ps s ≡ s
+phases_full g [] s e = refl
+phases_full g (p ∷ ps) s e =
+    ap (λ (t : Run). phases_run g ps t) (ap (λ (t : Run). sync_run g t) (lines_full g p.lines s e) ∙ sync_full g s e) ∙ phases_full g ps s e
 
 pub if_full : (why : Halt) (d : Done) (whole : Run) (front : List StepRec) → IfFull why d front → (d.full ≡ true → (whole.full ≡ true) × (whole.history ≡ d.history)) → IfFull why (done_of whole) front
 if_full halt.Full d whole front k f = let w : (whole.full ≡ true) × (whole.history ≡ d.history) = f k.0 in (w.0, k.1 ∙ sym w.1)

@@ -1,46 +1,39 @@
 -- The journal of a script of one editor that was stopped: some phases are whole, and of the next a front was done.
-use Rattle.std.proofs.Common.{◌≡◌, ℕ, zero, suc, ◌<◌, ◌≤◌, ◌+◌, Bool, true, false, cond, not, List, [], ◌∷◌, ◌++◌, length, length-append, reverse, Option, Some, None, ◌⊎◌, inl, inr, is_some, arith, refl, ap, sym, subst, ◌∙◌}
-use Rattle.std.proofs.lemmas.Bool.{true≢false}
-use Rattle.std.proofs.lemmas.List.{append-nil, append_assoc, reverse-reverse}
+use Rattle.std.proofs.Common.{◌≡◌, ℕ, zero, suc, ◌<◌, ◌+◌, Bool, true, false, cond, List, [], ◌∷◌, ◌++◌, length, length-append, reverse, Option, Some, None, ◌⊎◌, inl, inr, is_some, arith, refl, ap, sym, subst, ◌∙◌}
+use Rattle.std.proofs.lemmas.List.{append-nil, nil_from_length, reverse-reverse}
 use Rattle.audit_model.specs.declared.commit.Edit.{Edit}
 use Rattle.audit_model.specs.declared.verdict.Pair.{Pair}
 use Rattle.audit_model.specs.declared.step.StepRec.{StepRec}
 use Rattle.audit_model.specs.declared.step.Given.{Given}
 use Rattle.audit_model.specs.declared.step.Call.TheVariants as calls
 use Rattle.audit_model.specs.declared.step.Reply.{Reply}
-use Rattle.audit_model.specs.declared.step.Reply.TheVariants.{Began, Accepted, Refused, Claimed, Idle, Used, Stale, Back, Pending, Report}
+use Rattle.audit_model.specs.declared.step.Reply.TheVariants.{Claimed, Idle, Back}
 use Rattle.audit_model.specs.declared.script.Act.{Act}
 use Rattle.audit_model.specs.declared.script.Act.TheVariants.{Begin, Change, Commit, Publish, Take, Give, Work}
 use Rattle.audit_model.specs.declared.script.ScriptLine.{ScriptLine}
 use Rattle.audit_model.specs.declared.script.Phase.{Phase}
 use Rattle.audit_model.specs.Models.{IsModel}
 use Rattle.audit_model.specs.Pairs.{NumberedFrom}
-use Rattle.audit_model.specs.History.{Ground, revision, given, out, without_claim, claim_numbered}
-use Rattle.audit_model.specs.Machine.{Legal, claim_reply, claimed, publish_reply, commit_reply, least_claimable, is_full, pairs_now}
-use Rattle.audit_model.specs.ScriptLines.{Place, place, free, number_in, entry, Turns, Rounds, Does, FollowsFrom, own}
-use Rattle.audit_model.specs.ScriptOrder.{IsOrderly, AreOrderly, may_come, drafts_after, holds_after}
-use Rattle.audit_model.specs.Serial.{Done, done, ended, with_room, given_to, with_delivery, after_delivery, after_claim, rounds, commit_done, give_done, act_done, publish_done, drain_done, Run, fresh, moved, line_run, lines_run, sync_run, phases_run, serial}
+use Rattle.audit_model.specs.History.{Ground, revision, given, out, claim_numbered}
+use Rattle.audit_model.specs.Machine.{Legal, claim_reply, claimed, publish_reply, least_claimable, is_full, pairs_now}
+use Rattle.audit_model.specs.ScriptLines.{Place, place, free, entry, Rounds, Does, own}
+use Rattle.audit_model.specs.ScriptOrder.{IsOrderly, AreOrderly, may_come}
+use Rattle.audit_model.specs.Serial.{Done, done, ended, with_room, given_to, with_delivery, after_delivery, after_claim, rounds, commit_done, give_done, act_done, publish_done, drain_done, Run, fresh, moved, lines_run, sync_run, phases_run}
 use Rattle.audit_model.proofs.RunLegal.{serial_is_legal}
 use Rattle.serial_run.specs.Growth.{IsLater, returns, returned}
-use Rattle.serial_run.specs.Phased.{IsPhaseOf}
-use Rattle.serial_run.specs.Runs.{script_history, IsCut}
-use Rattle.serial_run.specs.Stopped.{held_number, StopsInRounds, StopsInLine, StopsFrom, StopsInDrain, back_of, StopsInLines, StopsBehindLines, AreStopped, StopIsPhased}
-use Rattle.serial_run.proofs.Growing.{same, joined, lines_grow, sync_grows, phases_grow, rounds_grow}
-use Rattle.serial_run.proofs.Phasing.{lines_full}
-use Rattle.serial_run.proofs.Finishing.{phases_full}
-use Rattle.serial_run.proofs.Following.{turned, turned_both, legal_before, HeldIn, none_held, deliver_entry, delivery_is, none_left, turns_first, rounds_first, Goes, act_goes, none_yet, not_true, drafts, holds, own_first, line_is, order_on, AreFollowed, lines_follow, IsPhased, phase_on}
+use Rattle.serial_run.specs.Stopped.{held_number, StopsInRounds, StopsInLine, StopsFrom, StopsInDrain, back_of, AreStopped, StopIsPhased}
+use Rattle.serial_run.proofs.Growing.{turned, joined, lines_grow, sync_grows, phases_grow, rounds_grow}
+use Rattle.serial_run.proofs.Turning.{none_left}
+use Rattle.serial_run.proofs.Phasing.{lines_full, sync_full, sync_on, phases_full}
+use Rattle.serial_run.proofs.Following.{turned_both, legal_before, HeldIn, deliver_entry, delivery_is, turns_first, rounds_first, Goes, act_goes, none_yet, not_true, drafts, holds, own_first, line_is, order_on, AreFollowed, lines_follow, IsPhased, phase_on}
 
 -- Histories of which one goes on from the other.
-
-no_more : (xs : List StepRec) → length xs ≡ 0 → xs ≡ []
-no_more [] e = refl
-no_more (x ∷ xs) e = absurd (cc)
 
 between : (h f : List StepRec) → IsLater h f → IsLater f h → f ≡ h
 between h f a b =
     let fewer : length f ≡ length a.0 + length h = ap (λ (xs : List StepRec). length xs) a.1 ∙ length-append a.0 h in
     let more : length h ≡ length b.0 + length f = ap (λ (xs : List StepRec). length xs) b.1 ∙ length-append b.0 f in
-    a.1 ∙ ap (λ (xs : List StepRec). xs ++ h) (no_more a.0 (omega (arith, fewer, more)))
+    a.1 ∙ ap (λ (xs : List StepRec). xs ++ h) (nil_from_length a.0 (omega (arith, fewer, more)))
 
 abbrev tail_of : List StepRec → List StepRec
 tail_of [] = []
@@ -453,12 +446,6 @@ no_phases [] h f o e =
     let back : (returned f ≡ f) × (out (returned f) ≡ []) = given_back 1 None f k in
     record { entries = []; history = back.0 ∙ e; stopped = refl; none_out = back.1 }
 no_phases (p ∷ ps) h f o e = in_lines p ps h f (no_lines free p.lines h f o e)
-
-sync_full : (g : Ground) (s : Run) → s.full ≡ true → sync_run g s ≡ s
-sync_full g s e = ap (λ (b : Bool). cond b s (moved 0 s (drain_done g s.history))) e
-
-sync_on : (g : Ground) (s : Run) → s.full ≡ false → sync_run g s ≡ moved 0 s (drain_done g s.history)
-sync_on g s e = ap (λ (b : Bool). cond b s (moved 0 s (drain_done g s.history))) e
 
 drain_or_later : (R : Type 0) (h f : List StepRec) (d : Done) (u : Run) → u.history ≡ d.history → u.full ≡ d.full → (CutDrain h f → R) → (u.full ≡ false → IsLater u.history f → R) → DrainCut h f d → R
 drain_or_later R h f d u history full here on (inl k) = here k

@@ -1,5 +1,5 @@
 -- Claims, deliveries and rounds.
-use Rattle.std.proofs.Common.{◌≡◌, ℕ, zero, suc, ◌+◌, ◌-◌, ◌<◌, arith, Result, Ok, Err, Bool, true, false, not, cond, ◌==◌, List, [], ◌∷◌, ◌++◌, Option, Some, None, ◌⊎◌, inl, inr, refl, ap, sym, subst, ◌∙◌}
+use Rattle.std.proofs.Common.{◌≡◌, ℕ, suc, ◌+◌, ◌-◌, ◌<◌, arith, Ok, Bool, true, false, not, cond, List, [], ◌∷◌, ◌++◌, Option, Some, None, ◌⊎◌, inl, inr, refl, ap, sym, subst, ◌∙◌}
 use Rattle.std.proofs.lemmas.Bool.{eq-eqb}
 use Rattle.audit_model.specs.declared.step.StepRec.{StepRec}
 use Rattle.audit_model.specs.declared.step.Given.{Given}
@@ -7,10 +7,11 @@ use Rattle.audit_model.specs.declared.step.Call.TheVariants as call
 use Rattle.audit_model.specs.declared.step.Reply.{Reply}
 use Rattle.audit_model.specs.declared.step.Reply.TheVariants as reply
 use Rattle.audit_model.specs.declared.specification.Specification.{Specification}
-use Rattle.audit_model.specs.History.{Ground, out, claim_numbered, without_claim}
-use Rattle.audit_model.specs.Machine.{Legal, claim_reply, deliver_reply, is_full}
+use Rattle.audit_model.specs.History.{Ground, commits, out, claim_numbered, without_claim}
+use Rattle.audit_model.specs.Machine.{Legal, claim_reply, is_full}
 use Rattle.audit_model.specs.ScriptLines.{Place, entry}
 use Rattle.audit_model.specs.Serial.{Done, done, ended, given_to, with_delivery, after_delivery, after_claim, rounds}
+use Rattle.audit_model.proofs.Commits.{model_of-last}
 use Rattle.model_view.specs.Views.{ClaimView, FindingView}
 use Rattle.model_view.specs.declared.answers.Delivered.{Delivered}
 use Rattle.audit_core.specs.Cores.{CoreView}
@@ -18,17 +19,23 @@ use Rattle.model_view.specs.declared.answers.Halt.{Halt}
 use Rattle.model_view.specs.declared.answers.Halt.TheVariants as halt
 use Rattle.audit_core.specs.Steps.{Adds, Unchanged, IsHalted, IsGiven, IsTrueFinding, given_of, delivery_told}
 use Rattle.audit_run.specs.Holding.{IsTaken, IsFindingOf}
-use Rattle.audit_run.proofs.HoldLaws.{taken_more}
-use Rattle.audit_run.proofs.PlayLaws.{true_finding}
 use Rattle.serial_run.specs.declared.editor.Held.TheVariants as held
 use Rattle.serial_run.specs.Growth.{IsLater, returns, returned}
 use Rattle.serial_run.specs.Editing.{HoldsIn}
 use Rattle.serial_run.specs.Course.{IsReturned, IsStopped, AreRounds}
-use Rattle.serial_run.specs.Turns.{IsFree, IsCutTurn, IsHandedIn, IsRound, IsLastRound, Rounds, StopsTurn, has_room, claim_entry}
+use Rattle.serial_run.specs.Turns.{IsFree, IsCutTurn, IsHandedIn, IsRound, IsLastRound, LeavesRound, StopsTurn, has_room, claim_entry}
 use Rattle.serial_run.proofs.Growing.{same, joined, one_more, delivered, behind_claim, rounds_grow}
 
 pub legal_next : {old new : CoreView} {e : StepRec} → Adds old new e → Legal old.ground old.history → Legal new.ground new.history
 legal_next a l = rw (a.ground, a.history) (a.lawful, l)
+
+-- after a call that changed nothing
+pub adds_on : {old mid new : CoreView} {e : StepRec} → Unchanged old mid → Adds mid new e → Adds old new e
+adds_on u a = record {
+  lawful = rw (← u.ground, ← u.history) a.lawful;
+  history = rw (← u.history) a.history;
+  ground = a.ground ∙ u.ground;
+}
 
 abbrev claimed_entry : ℕ → ClaimView → StepRec
 claimed_entry who c = entry who call.Claim (reply.Claimed c.number c.pair c.snapshot.revision)
@@ -44,13 +51,10 @@ pub record IsTakenAlone (core : CoreView) (who : ℕ) (c : ClaimView) : Type 0 w
   pub alone : out core.history ≡ given_of who c ∷ []
 
 pub took : {old new : CoreView} {who : ℕ} (c : ClaimView) → IsFree old → Adds old new (claimed_entry who c) → IsGiven old new who c → IsTakenAlone new who c
-took {old = old} {new = new} {who = who} c f a given =
-    let o : claim_numbered c.number (out (claimed_entry who c ∷ old.history)) ≡ Some (given_of who c) =
-    subst (λ (h : List StepRec). claim_numbered c.number (out h) ≡ Some (given_of who c)) a.history given.is_out in
-    record {
-      taken = rw (a.ground, a.history) (taken_more old.ground old.history [] who c f.legal a.lawful given.snapshot o tt).0;
-      alone = rw a.history (ap (λ (cs : List Given). cs ++ given_of who c ∷ []) f.none_out);
-    }
+took {old = old} {who = who} c f a given = record {
+  taken = record { is_out = given.is_out; snapshot_is = rw (a.ground, a.history, given.snapshot) (sym (model_of-last old.ground (commits old.history))) };
+  alone = rw a.history (ap (λ (cs : List Given). cs ++ given_of who c ∷ []) f.none_out);
+}
 
 pub found : {old new : CoreView} {who : ℕ} {c : ClaimView} {f : FindingView} (specs : List Specification) → specs ≡ old.ground.specs → IsFree old → Adds old new (claimed_entry who c) → IsGiven old new who c → IsFindingOf specs c f → HoldsIn new who (held.Found f)
 found {old = old} {new = new} {who = who} {c = c} {f = f} specs same free a given k =
@@ -87,16 +91,23 @@ cut_behind {old = old} {mid = mid} who c f room a alone b = record {
 -- Deliveries.
 
 pub ready_true : {core : CoreView} {who : ℕ} {f : FindingView} → HoldsIn core who (held.Found f) → IsTrueFinding core who f
-ready_true k = true_finding k.ready.0 k.ready.1
+ready_true k = record {
+  is_out = k.ready.0.is_out;
+  snapshot_is = k.ready.0.snapshot_is;
+  verdict_is = k.ready.1.verdict_is;
+  needs_are = k.ready.1.needs_are;
+}
 
 same_some : (o : Option Given) (c d : Given) → o ≡ Some c → o ≡ Some d → c ≡ d
 same_some o c d e f = let k : Some c ≡ Some d = sym e ∙ f in cc
 
-given_to_self : (who : ℕ) (c : Given) → c.actor ≡ who → given_to who (Some c) ≡ Some c
+pub given_to_self : (who : ℕ) (c : Given) → c.actor ≡ who → given_to who (Some c) ≡ Some c
 given_to_self who c e = ap (λ (b : Bool). cond b (Some c) None) (eq-eqb c.actor who e)
 
-none_left : (n : ℕ) (c : Given) → c.number ≡ n → without_claim n (c ∷ []) ≡ []
-none_left n c e = ap (λ (b : Bool). cond (not b) (c ∷ []) []) (eq-eqb c.number n e)
+-- where this claim alone is out, none is out behind its delivery
+pub none_left : (n : ℕ) (cs : List Given) (c : Given) → cs ≡ c ∷ [] → c.number ≡ n → without_claim n cs ≡ []
+none_left n cs c o e =
+    ap (λ (xs : List Given). without_claim n xs) o ∙ ap (λ (b : Bool). cond (not b) (c ∷ []) []) (eq-eqb c.number n e)
 
 pub handed_in : {old new : CoreView} {who : ℕ} {f : FindingView} (told : Delivered) → HoldsIn old who (held.Found f) → Adds old new (entry who (call.Deliver f.claim.number) (delivery_told told)) → IsHandedIn old new who f.claim.number
 handed_in {old = old} {new = new} {who = who} {f = f} told k a =
@@ -112,7 +123,7 @@ handed_in {old = old} {new = new} {who = who} {f = f} told k a =
           ∙ sym (ap (λ (o : Option Given). with_delivery old.ground who n (given_to who o) old.history) a.lawful.1.is_held);
       free = record {
         legal = legal_next a k.legal;
-        none_out = rw a.history (ap (λ (cs : List Given). without_claim n cs) k.out_is ∙ none_left n (given_of who f.claim) refl);
+        none_out = rw a.history (none_left n (out old.history) (given_of who f.claim) k.out_is refl);
       };
     }
 
@@ -261,14 +272,10 @@ turning_stopped {begun = begun} {old = old} {new = new} {who = who} {most = most
 pub left_is : (counter most : ℕ) → counter < most → most - counter ≡ suc (most - (counter + 1))
 left_is counter most lt = omega (arith, lt)
 
-pub no_more : {old new : CoreView} {who : ℕ} (more : Bool) → more ≡ false → Rounds old new who (Ok more) → IsLastRound old new who
+pub no_more : {old new : CoreView} {who : ℕ} (more : Bool) → more ≡ false → LeavesRound old new who (Ok more) → IsLastRound old new who
 no_more true e r = absurd (cc)
 no_more false e r = r
 
-pub one_round : {old new : CoreView} {who : ℕ} (more : Bool) → more ≡ true → Rounds old new who (Ok more) → IsRound old new who
+pub one_round : {old new : CoreView} {who : ℕ} (more : Bool) → more ≡ true → LeavesRound old new who (Ok more) → IsRound old new who
 one_round true e r = r
 one_round false e r = absurd (cc)
-
-pub rounds_stopped : {begun old new : CoreView} {who most : ℕ} (left rest : ℕ) (why : Halt) → left ≡ suc rest → AreTurning begun old who most left → Rounds old new who (Err why) → (p : Place) → IsStopped why (rounds begun.ground who most p begun.history) begun new
-rounds_stopped left rest halt.Full e t k p = turning_stopped left rest halt.Full e t k p
-rounds_stopped left rest halt.Memory e t k p = turning_stopped left rest halt.Memory e t k p

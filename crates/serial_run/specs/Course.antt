@@ -1,18 +1,16 @@
 -- What a part of a run leaves: it was done, or it was stopped for want of memory or before a call that would be answered Full.
-use Rattle.std.specs.Prelude.{◌≡◌, ℕ, true, false, List, [], Bool, Option, Some, None, Result, Ok, Err}
+use Rattle.std.specs.Prelude.{◌≡◌, ℕ, true, false, List, [], Option, Some, None, Result, Ok, Err}
 use Rattle.audit_model.specs.declared.step.StepRec.{StepRec}
-use Rattle.audit_model.specs.declared.script.Act.{Act}
-use Rattle.audit_model.specs.History.{Ground, out}
+use Rattle.audit_model.specs.History.{out}
 use Rattle.audit_model.specs.Machine.{Legal, publish_reply}
 use Rattle.audit_model.specs.Output.{report_in}
-use Rattle.audit_model.specs.ScriptLines.{Place}
-use Rattle.audit_model.specs.Serial.{Done, act_done, rounds}
+use Rattle.audit_model.specs.Serial.{Done}
 use Rattle.model_view.specs.declared.answers.Halt.{Halt}
 use Rattle.model_view.specs.declared.answers.Halt.TheVariants as halt
 use Rattle.audit_core.specs.Cores.{CoreView}
 use Rattle.serial_run.specs.declared.editor.Editor.{Editor}
 use Rattle.serial_run.specs.Growth.{IsLater, returned}
-use Rattle.serial_run.specs.Editing.{WorksIn, HoldsIn, place_of}
+use Rattle.serial_run.specs.Editing.{WorksIn, place_of}
 
 -- all claims that were out were given back
 pub record IsReturned (old new : CoreView) : Type 0 where
@@ -44,9 +42,10 @@ pub record IsDone (d : Done) (old new : CoreView) (who : ℕ) (e : Editor) : Typ
   pub place_is : d.place ≡ place_of e
   pub works : WorksIn new who e
 
-abbrev pub Leads : Done → CoreView → CoreView → ℕ → Result Editor Halt → Type 0
-Leads d old new who (Ok e) = IsDone d old new who e
-Leads d old new who (Err why) = IsStopped why d old new
+-- The line was done, and the editor has this then; or its course was stopped.
+abbrev pub LeavesEditor : Done → CoreView → CoreView → ℕ → Result Editor Halt → Type 0
+LeavesEditor d old new who (Ok e) = IsDone d old new who e
+LeavesEditor d old new who (Err why) = IsStopped why d old new
 
 -- the text of a report, if there is one
 abbrev pub text_in : Option (List ℕ) → List ℕ

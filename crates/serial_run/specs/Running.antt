@@ -1,5 +1,5 @@
 -- What the lines of a phase, a drain, and a phase leave. Histories stand here with the newest entry first.
-use Rattle.std.specs.Prelude.{◌≡◌, ℕ, Bool, true, false, List, [], ◌∷◌, ◌++◌, Option, Some, None, Result, Ok, Err}
+use Rattle.std.specs.Prelude.{◌≡◌, ℕ, Bool, true, false, List, [], ◌∷◌, ◌++◌, Result, Ok, Err}
 use Rattle.ifc_base.specs.declared.value.Instance.{Instance}
 use Rattle.audit_model.specs.Report.{audit_text}
 use Rattle.audit_model.specs.Models.{IsModel}
@@ -43,9 +43,10 @@ pub record IsReached (s : Run) (old new : CoreView) : Type 0 where
   pub at : AtRun s new free
   pub free : IsFree new
 
-abbrev pub Leads : {A : Type 0} → Run → CoreView → CoreView → List ℕ → List ℕ → Result A Halt → Type 0
-Leads s old new before after (Ok done) = IsReached s old new × Tells old new before after
-Leads s old new before after (Err why) = IsStopped why (done_of s) old new
+-- The lines of a phase were done and told; or the run was stopped.
+abbrev pub LeavesLinesTold : {A : Type 0} → Run → CoreView → CoreView → List ℕ → List ℕ → Result A Halt → Type 0
+LeavesLinesTold s old new before after (Ok done) = IsReached s old new × Tells old new before after
+LeavesLinesTold s old new before after (Err why) = IsStopped why (done_of s) old new
 
 -- what a core of this ground needs so that a drain ends with a report
 pub record IsSound (g : Ground) : Type 0 where

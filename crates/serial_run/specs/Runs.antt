@@ -1,6 +1,6 @@
 -- What a whole run of a script leaves. Histories stand here with the newest entry first, journals with the oldest first.
-use Rattle.std.specs.Prelude.{◌≡◌, ◌==◌, ℕ, ◌+◌, ◌-◌, ◌<◌, ◌≤◌, Bool, true, false, List, [], ◌∷◌, ◌++◌, take, drop, length, reverse, codes, if◌then◌else◌, Option}
-use Rattle.std.specs.Str.{bytes_eq}
+use Rattle.std.specs.Prelude.{◌≡◌, ℕ, nat_eq, ◌+◌, ◌<◌, ◌≤◌, Bool, true, false, List, [], ◌∷◌, ◌++◌, take, length, reverse, codes, if◌then◌else◌, Option}
+use Rattle.std.specs.List.{ends_with}
 use Rattle.shelf_io.specs.Causes.{Rose}
 use Rattle.shelf_io.specs.Pieces.{Appended}
 use Rattle.audit_model.specs.declared.step.StepRec.{StepRec}
@@ -17,7 +17,7 @@ use Rattle.serial_run.specs.Running.{ends_now}
 
 -- The text ends with the line `end pass`.
 unfoldable pub ends_pass : List ℕ → Bool
-ends_pass text = bytes_eq (drop (length text - 9) text) (codes "end pass\n")
+ends_pass text = ends_with nat_eq text (codes "end pass\n")
 
 -- the history that the script makes
 abbrev pub script_history : Ground → List Phase → List StepRec

@@ -4,7 +4,7 @@ use Rattle.audit_model.specs.declared.verdict.Pair.{Pair}
 use Rattle.audit_model.specs.declared.step.Call.TheVariants as call
 use Rattle.audit_model.specs.declared.step.Reply.TheVariants as reply
 use Rattle.audit_model.specs.declared.step.StepRec.{StepRec}
-use Rattle.audit_model.specs.History.{Ground, out}
+use Rattle.audit_model.specs.History.{out}
 use Rattle.audit_model.specs.Machine.{Legal, claim_reply, is_full}
 use Rattle.audit_model.specs.ScriptLines.{entry}
 use Rattle.audit_model.specs.Serial.{after_delivery}
@@ -79,7 +79,8 @@ pub record IsLastRound (old new : CoreView) (who : ℕ) : Type 0 where
   pub history : new.history ≡ entry who call.Claim reply.Idle ∷ old.history
   pub free : IsFree new
 
-abbrev pub Rounds : CoreView → CoreView → ℕ → Result Bool Halt → Type 0
-Rounds old new who (Ok true) = IsRound old new who
-Rounds old new who (Ok false) = IsLastRound old new who
-Rounds old new who (Err why) = StopsTurn old new who why
+-- The round was done, and answers whether there was a pair; or it was stopped.
+abbrev pub LeavesRound : CoreView → CoreView → ℕ → Result Bool Halt → Type 0
+LeavesRound old new who (Ok true) = IsRound old new who
+LeavesRound old new who (Ok false) = IsLastRound old new who
+LeavesRound old new who (Err why) = StopsTurn old new who why

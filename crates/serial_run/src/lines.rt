@@ -2,7 +2,7 @@
 ghost use Rattle.std.specs.Prelude.{◌≡◌, false};
 ghost use Rattle.audit_model.specs.Serial.{act_done};
 ghost use Rattle.serial_run.specs.Editing.{WorksIn, is_holding, place_of};
-ghost use Rattle.serial_run.specs.Course.{Leads, Publishes};
+ghost use Rattle.serial_run.specs.Course.{LeavesEditor, Publishes};
 
 use crate::editor::{Editor, Held, let_go};
 use crate::turns::{hand_in, rounds, take_up};
@@ -16,7 +16,8 @@ use std::unreachable;
 /// `open`: begins a draft on the current revision.
 pub fn begin(alloc: Global, core: &mut Core, who: u32, editor: Editor) -> Result<Editor, Halt>
     requires { WorksIn core.old who editor }
-    ensures { Leads (act_done core.old.ground who Act.Begin (place_of editor) core.old.history) core.old core.new who result }
+    ensures { LeavesEditor (act_done core.old.ground who Act.Begin (place_of editor) core.old.history)
+        core.old core.new who result }
 {
     let Editor {
         draft: _draft,
@@ -37,7 +38,8 @@ pub fn begin(alloc: Global, core: &mut Core, who: u32, editor: Editor) -> Result
 /// `add`, `set` or `remove`: one more edit of the draft, if there is one.
 pub fn change(core: &mut Core, who: u32, editor: Editor, edit: Edit) -> Result<Editor, Halt>
     requires { WorksIn core.old who editor }
-    ensures { Leads (act_done core.old.ground who (Act.Change edit) (place_of editor) core.old.history) core.old core.new who result }
+    ensures { LeavesEditor (act_done core.old.ground who (Act.Change edit) (place_of editor) core.old.history)
+        core.old core.new who result }
 {
     let Editor { draft, held } = editor;
     let Some(mut draft) = draft else {
@@ -58,7 +60,8 @@ pub fn change(core: &mut Core, who: u32, editor: Editor, edit: Edit) -> Result<E
 /// `commit`: commits the draft, if there is one. It is gone whether it is accepted or refused.
 pub fn commit(alloc: Global, core: &mut Core, who: u32, editor: Editor) -> Result<Editor, Halt>
     requires { WorksIn core.old who editor }
-    ensures { Leads (act_done core.old.ground who Act.Commit (place_of editor) core.old.history) core.old core.new who result }
+    ensures { LeavesEditor (act_done core.old.ground who Act.Commit (place_of editor) core.old.history)
+        core.old core.new who result }
 {
     let Editor { draft, held } = editor;
     let Some(draft) = draft else {
@@ -89,7 +92,8 @@ pub fn publish(
     editor: Editor,
 ) -> Result<(Editor, Option<ReportText>), Halt>
     requires { WorksIn core.old who editor }
-    ensures { Publishes (act_done core.old.ground who Act.Publish (place_of editor) core.old.history) core.old core.new who result }
+    ensures { Publishes (act_done core.old.ground who Act.Publish (place_of editor) core.old.history)
+        core.old core.new who result }
 {
     let Editor { draft, held } = editor;
     match core.publish(alloc, who) {
@@ -113,7 +117,8 @@ pub fn take<E: Evaluate>(
     requires works { WorksIn core.old who editor }
     requires free { is_holding editor.held ≡ false }
     requires specs { E.specs evaluator.now ≡ core.old.ground.specs }
-    ensures { Leads (act_done core.old.ground who Act.Take (place_of editor) core.old.history) core.old core.new who result }
+    ensures { LeavesEditor (act_done core.old.ground who Act.Take (place_of editor) core.old.history)
+        core.old core.new who result }
 {
     let Editor { draft, held } = editor;
     let Held::Nothing = held else { unreachable!() };
@@ -132,7 +137,8 @@ pub fn take<E: Evaluate>(
 /// `give`: delivers what is held; nothing where the take was answered `Idle`.
 pub fn give(core: &mut Core, who: u32, editor: Editor) -> Result<Editor, Halt>
     requires { WorksIn core.old who editor }
-    ensures { Leads (act_done core.old.ground who Act.Give (place_of editor) core.old.history) core.old core.new who result }
+    ensures { LeavesEditor (act_done core.old.ground who Act.Give (place_of editor) core.old.history)
+        core.old core.new who result }
 {
     let Editor { draft, held } = editor;
     match held {
@@ -158,7 +164,8 @@ pub fn work<E: Evaluate>(
     requires works { WorksIn core.old who editor }
     requires free { is_holding editor.held ≡ false }
     requires specs { E.specs evaluator.now ≡ core.old.ground.specs }
-    ensures { Leads (act_done core.old.ground who (Act.Work most) (place_of editor) core.old.history) core.old core.new who result }
+    ensures { LeavesEditor (act_done core.old.ground who (Act.Work most) (place_of editor) core.old.history)
+        core.old core.new who result }
 {
     let Editor { draft, held } = editor;
     let Held::Nothing = held else { unreachable!() };

@@ -3,7 +3,7 @@ ghost use Rattle.std.specs.Prelude.{◌≡◌, false};
 ghost use Rattle.audit_model.specs.ScriptLines.{free};
 ghost use Rattle.audit_model.specs.ScriptOrder.{IsOrderly};
 ghost use Rattle.audit_model.specs.Serial.{Run, drain_done, lines_run, sync_run};
-ghost use Rattle.serial_run.specs.Running.{AtRun, Drains, IsSound, Leads, Phases};
+ghost use Rattle.serial_run.specs.Running.{AtRun, Drains, IsSound, LeavesLinesTold, Phases};
 ghost use Rattle.serial_run.specs.Turns.{IsFree};
 
 use crate::editor::{Editor, Held, let_go};
@@ -30,7 +30,8 @@ fn lines<E: Evaluate>(
     requires order { IsOrderly 1 false false lines }
     requires specs { E.specs evaluator.now ≡ core.old.ground.specs }
     requires limits { limits.now ≡ core.old.ground.limits }
-    ensures { (s : Run) → AtRun s core.old free → Leads (lines_run core.old.ground lines s) core.old core.new text.old.items text.new.items result }
+    ensures { (s : Run) → AtRun s core.old free →
+        LeavesLinesTold (lines_run core.old.ground lines s) core.old core.new text.old.items text.new.items result }
 {
     let mut editor = Editor {
         draft: None,
@@ -80,7 +81,8 @@ pub fn phase<E: Evaluate>(
     requires order { IsOrderly 1 false false phase.lines }
     requires specs { E.specs evaluator.now ≡ core.old.ground.specs }
     requires limits { limits.now ≡ core.old.ground.limits }
-    ensures { (s : Run) → AtRun s core.old free → Phases (sync_run core.old.ground (lines_run core.old.ground phase.lines s)) core.old core.new result }
+    ensures { (s : Run) → AtRun s core.old free →
+        Phases (sync_run core.old.ground (lines_run core.old.ground phase.lines s)) core.old core.new result }
 {
     let mut text = Vec::new(alloc);
     lines(alloc, core, evaluator, limits, phase.lines, &mut text)?;

@@ -60,7 +60,9 @@ pub fn run_script<E: Evaluate, K: Sink>(
     requires limits { limits.now ≡ core.ground.limits }
     ensures ran { IsRan core.entry.ground phases (K.written out.old) (K.written out.new) result }
     ensures sink { IsFinished (K.faults out.old) (K.faults out.new) result.end }
-    ensures sure { (more : ℕ) → K.sure out.old (length (output core.entry.ground (serial core.entry.ground phases)) + more) → IsWritten result.end }
+    ensures sure { (more : ℕ) →
+        K.sure out.old (length (output core.entry.ground (serial core.entry.ground phases)) + more) →
+        IsWritten result.end }
 {
     output_is_told();
     serial_is_legal();
@@ -104,5 +106,5 @@ fn end_of(passed: bool) -> End
 fn ends_pass(text: &[u8]) -> bool
     ensures { result ≡ ends_pass text.now }
 {
-    text.len() >= 9 && &text[text.len() - 9..] == b"end pass\n".as_slice()
+    text.ends_with(b"end pass\n")
 }

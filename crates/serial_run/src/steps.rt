@@ -35,7 +35,8 @@ pub fn step<E: Evaluate>(
     requires order { may_come (is_drafting editor.draft) (is_holding editor.held) line ≡ true }
     requires specs { E.specs evaluator.now ≡ core.old.ground.specs }
     requires limits { limits.now ≡ core.old.ground.limits }
-    ensures { Steps (act_done core.old.ground 1 line (place_of editor) core.old.history) core.old core.new text.old.items text.new.items result }
+    ensures { Steps (act_done core.old.ground 1 line (place_of editor) core.old.history)
+        core.old core.new text.old.items text.new.items result }
 {
     let from = core.journal().len();
     let (editor, report) = act(alloc, core, evaluator, EDITOR, editor, line)?;

@@ -5,7 +5,7 @@ ghost use Rattle.audit_model.specs.Machine.{Legal};
 ghost use Rattle.audit_model.specs.ScriptLines.{Place};
 ghost use Rattle.audit_model.specs.Serial.{rounds};
 ghost use Rattle.serial_run.specs.Editing.{HoldsIn};
-ghost use Rattle.serial_run.specs.Turns.{IsFree, Takes, HandsIn, Rounds};
+ghost use Rattle.serial_run.specs.Turns.{IsFree, Takes, HandsIn, LeavesRound};
 ghost use Rattle.serial_run.specs.Course.{Works};
 
 use crate::editor::Held;
@@ -56,7 +56,7 @@ pub fn hand_in(core: &mut Core, who: u32, finding: Finding) -> Result<(), Halt>
 fn round<E: Evaluate>(alloc: Global, core: &mut Core, evaluator: &E, who: u32) -> Result<bool, Halt>
     requires free { IsFree core.old }
     requires specs { E.specs evaluator.now ≡ core.old.ground.specs }
-    ensures { Rounds core.old core.new who result }
+    ensures { LeavesRound core.old core.new who result }
 {
     let Some(finding) = take_up(alloc, core, evaluator, who)? else {
         return Ok(false);

@@ -1,9 +1,8 @@
-use Rattle.std.proofs.Common.{◌≡◌, Some}
 use Rattle.audit_model.specs.declared.step.Reply.TheVariants.{Accepted, Refused}
-use Rattle.audit_run.proofs.PlayLaws.{adds_on}
 use Rattle.serial_run.specs.Editing.{draft_of, place_of}
 use Rattle.serial_run.proofs.Acting.{committed, stopped_before}
 use Rattle.serial_run.proofs.Growing.{commit_grows}
+use Rattle.serial_run.proofs.Turning.{adds_on}
 use Rattle.serial_run.proofs.lines.commit.Goals as goal
 
 pub returns-in-Ok : goal.returns-in-Ok

@@ -1,13 +1,13 @@
-use Rattle.std.proofs.Common.{◌≡◌, ◌-◌, ◌+◌}
+use Rattle.std.proofs.Common.{◌-◌, ◌+◌}
 use Rattle.std.proofs.lemmas.Result.{err_from_is_err_and}
-use Rattle.serial_run.proofs.Turning.{left_is, no_more, one_round, rounds_stopped, turning_idle, turning_on}
+use Rattle.serial_run.proofs.Turning.{left_is, no_more, one_round, turning_idle, turning_on, turning_stopped}
 use Rattle.serial_run.proofs.turns.rounds.Goals as goal
 
 pub returns-in_err-round : goal.returns-in_err-round
 returns-in_err-round g c =
     let p = err_from_is_err_and c.from_residual.result c.from_residual.ensures.1 in
     let most = c.args.most in
-    rw (p.1, p.2) (rounds_stopped (most - c.loop.counter) (most - (c.loop.counter + 1)) c.in_err-round.field-0.0 (left_is c.loop.counter most c.loop-test.true) c.loop.invariant c.in_err-round.ensures)
+    rw (p.1, p.2) (turning_stopped (most - c.loop.counter) (most - (c.loop.counter + 1)) c.in_err-round.field-0.0 (left_is c.loop.counter most c.loop-test.true) c.loop.invariant c.in_err-round.ensures)
 
 pub returns-then-not-branch : goal.returns-then-not-branch
 returns-then-not-branch g c =

@@ -1,5 +1,6 @@
 -- Model files as the relation says them, and as they are read.
 use Rattle.std.proofs.Common.{◌≡◌, ℕ, ◌<◌, ◌≤◌, Bool, true, false, not, ◌||◌, cond, List, [], ◌∷◌, ◌++◌, length, Option, Some, None, Result, Ok, Err, ◌==◌, nat_lt, refl, ap, ◌∙◌, sym, subst, inl, inr, append_assoc, arith, length-append}
+use Rattle.std.proofs.lemmas.Bool.{and_from, and_parts, eqb-true, lt-ltb, ltb-true, or_from, or_parts}
 use Rattle.std.specs.List.{list_any, list_all}
 use Rattle.std.specs.Char.{is_ascii_digit, is_ascii_uppercase, is_ascii_alphanumeric}
 use Rattle.std.specs.Str.{bytes_eq}
@@ -17,7 +18,7 @@ use Rattle.narrow_forms.specs.InstanceLine.{instance_of}
 use Rattle.audit_model.specs.Models.{HasDistinctIds}
 use Rattle.narrow_forms.specs.Model.{Read, ◌>>=◌, after, may_follow, admitted, instances, end_of_section, header, last_line, at_end, file, with_line, model_reading}
 use Rattle.narrow_forms.specs.ModelFile.{IsParameter, AreParameters, IsInstanceLine, AreInstanceLines, ended, ModelFile}
-use Rattle.narrow_forms.proofs.Tools.{false_or_true, both, together, neither, chosen, equal_number, equal_text, same_text, below, is_below, not_back}
+use Rattle.narrow_forms.proofs.Tools.{false_or_true, chosen, equal_text, same_text, not_back}
 use Rattle.narrow_forms.proofs.LineLaws.{line_text, line_sound, line_complete}
 
 -- ---- bytes as lines
@@ -37,7 +38,7 @@ uncut_cut [] = refl
 uncut_cut (b ∷ bytes) =
     elim (false_or_true (b == 10)) [
       | inl h ↦ rw h (uncut_byte b (cut bytes) ∙ ap (λ (t : List ℕ). b ∷ t) (uncut_cut bytes))
-      | inr h ↦ rw h (ap (λ (t : List ℕ). 10 ∷ t) (uncut_cut bytes) ∙ ap (λ (c : ℕ). c ∷ bytes) (sym (equal_number b 10 h)))
+      | inr h ↦ rw h (ap (λ (t : List ℕ). 10 ∷ t) (uncut_cut bytes) ∙ ap (λ (c : ℕ). c ∷ bytes) (sym (eqb-true b 10 h)))
     ]
 
 -- these lines, and others behind them
@@ -67,24 +68,24 @@ cut_line : (first bytes : List ℕ) → list_all plain first ≡ true → cut (f
 unfolding cut
 cut_line [] bytes e = refl
 cut_line (b ∷ first) bytes e =
-    let k = both (plain b) (list_all plain first) e in
+    let k = and_parts (plain b) (list_all plain first) e in
     rw (not_is (b == 10) k.0) (ap (with_byte b) (cut_line first bytes k.1))
 
 cut_ended : (xs : List (List ℕ)) → list_all (list_all plain) xs ≡ true → cut (ended xs) ≡ onto xs (left [])
 unfolding cut ended onto
 cut_ended [] e = refl
 cut_ended (x ∷ xs) e =
-    let k = both (list_all plain x) (list_all (list_all plain) xs) e in
+    let k = and_parts (list_all plain x) (list_all (list_all plain) xs) e in
     ap cut (append_assoc x (10 ∷ []) (ended xs)) ∙ cut_line x (ended xs) k.0 ∙ ap (λ (r : Lines). line x r) (cut_ended xs k.1)
 
 -- ---- lines without a line feed within
 
 each_of : (p q : ℕ → Bool) → ((b : ℕ) → p b ≡ true → q b ≡ true) → (xs : List ℕ) → list_all p xs ≡ true → list_all q xs ≡ true
 each_of p q h [] e = refl
-each_of p q h (x ∷ xs) e = let k = both (p x) (list_all p xs) e in together (q x) (list_all q xs) (h x k.0) (each_of p q h xs k.1)
+each_of p q h (x ∷ xs) e = let k = and_parts (p x) (list_all p xs) e in and_from (q x) (list_all q xs) (h x k.0) (each_of p q h xs k.1)
 
 joined : (xs ys : List ℕ) → list_all plain xs ≡ true → list_all plain ys ≡ true → list_all plain (xs ++ ys) ≡ true
-joined xs ys e f = list_all-append plain xs ys ∙ together (list_all plain xs) (list_all plain ys) e f
+joined xs ys e f = list_all-append plain xs ys ∙ and_from (list_all plain xs) (list_all plain ys) e f
 
 plain_digit : (b : ℕ) → is_ascii_digit b ≡ true → plain b ≡ true
 plain_digit b e = grind (arith, nat_tests)
@@ -112,7 +113,7 @@ plain_line first x is =
 
 plain_lines : {lines : List (List ℕ)} {xs : List Instance} → AreInstanceLines lines xs → list_all (list_all plain) lines ≡ true
 plain_lines AreInstanceLines.none = refl
-plain_lines (AreInstanceLines.more first x lines xs is each) = together (list_all plain first) (list_all (list_all plain) lines) (plain_line first x is) (plain_lines each)
+plain_lines (AreInstanceLines.more first x lines xs is each) = and_from (list_all plain first) (list_all (list_all plain) lines) (plain_line first x is) (plain_lines each)
 
 -- ---- fixed lines
 
@@ -148,23 +149,19 @@ after_complete (w ∷ wanted) rest = rw (same_text w) (after_complete wanted res
 abbrev stands : List Instance → ℕ → Bool
 stands before id = list_any (λ y. y.id == id) before
 
-neither_is : (a b : Bool) → a ≡ false → b ≡ false → (a || b) ≡ false
-neither_is true b e f = absurd cc
-neither_is false b e f = f
-
 distinct_more : (before : List Instance) (x : Instance) → HasDistinctIds before → stands before x.id ≡ false → HasDistinctIds (before ++ x ∷ [])
 distinct_more [] x d e = (refl, tt)
 distinct_more (z ∷ before) x d e =
-    let k = neither (z.id == x.id) (stands before x.id) e in
+    let k = or_parts (z.id == x.id) (stands before x.id) e in
     let back : (x.id == z.id) ≡ false = not_back z.id x.id k.0 in
-    (list_any-append (λ y. y.id == z.id) before (x ∷ []) ∙ neither_is (stands before z.id) ((x.id == z.id) || false) d.0 (neither_is (x.id == z.id) false back refl), distinct_more before x d.1 k.1)
+    (list_any-append (λ y. y.id == z.id) before (x ∷ []) ∙ or_from (stands before z.id) ((x.id == z.id) || false) d.0 (or_from (x.id == z.id) false back refl), distinct_more before x d.1 k.1)
 
 distinct_new : (before : List Instance) (x : Instance) (others : List Instance) → HasDistinctIds (before ++ x ∷ others) → stands before x.id ≡ false
 distinct_new [] x others d = refl
 distinct_new (z ∷ before) x others d =
-    let k = neither (stands before z.id) ((x.id == z.id) || stands others z.id) (sym (list_any-append (λ y. y.id == z.id) before (x ∷ others)) ∙ d.0) in
-    let first = neither (x.id == z.id) (stands others z.id) k.1 in
-    neither_is (z.id == x.id) (stands before x.id) (not_back x.id z.id first.0) (distinct_new before x others d.1)
+    let k = or_parts (stands before z.id) ((x.id == z.id) || stands others z.id) (sym (list_any-append (λ y. y.id == z.id) before (x ∷ others)) ∙ d.0) in
+    let first = or_parts (x.id == z.id) (stands others z.id) k.1 in
+    or_from (z.id == x.id) (stands before x.id) (not_back x.id z.id first.0) (distinct_new before x others d.1)
 
 -- ---- the section of the instances
 
@@ -225,11 +222,11 @@ instances_sound most (line first lines) before read d le e =
       | inr h ↦
           let k = bound h.1 in
           let a = admitted_is most before (line first lines) (instance_of first) k.0 k.1 in
-          let b = both (nat_lt (length before) most) (not (stands before k.0.id)) a.1 in
+          let b = and_parts (nat_lt (length before) most) (not (stands before k.0.id)) a.1 in
           one_more most before first lines k.0 read (line_sound first k.0 a.0) (
           instances_sound most lines (before ++ k.0 ∷ []) read
           (distinct_more before k.0 d (not_is (stands before k.0.id) b.1))
-          (one_longer before k.0 most (below (length before) most b.0)) k.2)
+          (one_longer before k.0 most (ltb-true (length before) most b.0)) k.2)
     ]
 
 other_line : (first : List ℕ) (x : Instance) → IsInstanceLine first x → bytes_eq first end_of_section ≡ false
@@ -242,7 +239,7 @@ instances_complete AreInstanceLines.none most before rest d le = ap (λ (xs : Li
 instances_complete (AreInstanceLines.more first x own found is each) most before rest d le =
     let regroup : (before ++ x ∷ []) ++ found ≡ before ++ x ∷ found = append_assoc before (x ∷ []) found in
     let room : length before < most = omega (arith, length-append before (x ∷ found), le) in
-    rw (other_line first x is, line_complete first x is, is_below (length before) most room, distinct_new before x found d)
+    rw (other_line first x is, line_complete first x is, lt-ltb (length before) most room, distinct_new before x found d)
     (instances_complete each most (before ++ x ∷ []) rest (subst HasDistinctIds (sym regroup) d) (subst (λ (xs : List Instance). length xs ≤ most) (sym regroup) le)
     ∙ ap (λ (xs : List Instance). done (xs, rest)) regroup)
 
@@ -294,7 +291,7 @@ file_complete most bytes xs m =
     let plain_body = plain_lines m.each in
     let all_plain : list_all (list_all plain) (header ++ m.lines ++ ends) ≡ true =
     list_all-append (list_all plain) (header ++ m.lines) ends
-    ∙ together (list_all (list_all plain) (header ++ m.lines)) true (list_all-append (list_all plain) header m.lines ∙ plain_body) refl in
+    ∙ and_from (list_all (list_all plain) (header ++ m.lines)) true (list_all-append (list_all plain) header m.lines ∙ plain_body) refl in
     let lines : cut bytes ≡ onto header (onto m.lines (onto ends (left []))) =
     ap cut m.text ∙ cut_ended (header ++ m.lines ++ ends) all_plain ∙ onto_append (header ++ m.lines) ends (left []) ∙ onto_append header m.lines (onto ends (left [])) in
     rw (lines, after_complete header (onto m.lines (onto ends (left []))), instances_complete m.each most [] (line last_line (left [])) m.distinct m.few, after_complete (last_line ∷ []) (left [])) refl

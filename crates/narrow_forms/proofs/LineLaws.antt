@@ -1,5 +1,6 @@
 -- The instance lines as the relation says them, and as they are read.
 use Rattle.std.proofs.Common.{◌≡◌, ℕ, zero, suc, ◌+◌, ◌*◌, ◌-◌, ◌^◌, ◌<◌, ◌≤◌, Bool, true, false, cond, List, [], ◌∷◌, ◌++◌, length, Some, None, ◌==◌, nat_lt, refl, ap, ◌∙◌, sym, subst, inl, inr, append_assoc, arith, length-append}
+use Rattle.std.proofs.lemmas.Bool.{and_from, and_parts, eqb-true, lt-ltb, ltb-true}
 use Rattle.std.specs.Prelude.{fold}
 use Rattle.std.specs.List.{list_all}
 use Rattle.std.specs.Char.{is_ascii_digit, is_ascii_uppercase, is_ascii_alphanumeric}
@@ -8,9 +9,9 @@ use Rattle.std.proofs.lemmas.Bool.Decides.{nat_tests}
 use Rattle.ifc_base.specs.declared.value.Instance.{Instance}
 use Rattle.ifc_base.specs.declared.value.Value.{Value}
 use Rattle.narrow_forms.specs.InstanceLine as made
-use Rattle.narrow_forms.specs.InstanceLine.{Text, ◌>>=◌, behind, run, digits, number, keyword, quoted, parameter, parameters, behind_parameter, alone, instance_of}
+use Rattle.narrow_forms.specs.InstanceLine.{Text, behind, run, digits, number, keyword, quoted, parameter, parameters, behind_parameter, alone, instance_of}
 use Rattle.narrow_forms.specs.ModelFile.{IsNumber, IsKeyword, IsParameter, AreParameters, IsInstanceLine}
-use Rattle.narrow_forms.proofs.Tools.{false_or_true, both, together, bound, chosen, kept, passed, some_is, equal_number, itself, below, is_below}
+use Rattle.narrow_forms.proofs.Tools.{false_or_true, bound, chosen, kept, passed, some_is, itself}
 use Rattle.narrow_forms.proofs.LineLemmas.{parameters_are}
 
 -- ---- one byte
@@ -20,7 +21,7 @@ unfolding behind
 behind_sound c [] u e = absurd cc
 behind_sound c (b ∷ t) u e =
     let k = kept (b == c) (Some t) u e in
-    let same : b ≡ c = equal_number b c k.0 in
+    let same : b ≡ c = eqb-true b c k.0 in
     let rest : t ≡ u = some_is t u k.1 in
     cc
 
@@ -57,7 +58,7 @@ unfolding run
 run_complete p s [] [] each longest = ap (λ (r : List ℕ). (r, [])) (sym (append-nil s))
 run_complete p s [] (b ∷ u) each longest = rw (longest, append-nil s) refl
 run_complete p s (x ∷ xs) u each longest =
-    let k = both (p x) (list_all p xs) each in
+    let k = and_parts (p x) (list_all p xs) each in
     rw k.0 (run_complete p (s ++ x ∷ []) xs u k.1 longest ∙ ap (λ (r : List ℕ). (r, u)) (append_assoc s (x ∷ []) xs))
 
 -- ---- numbers
@@ -83,7 +84,7 @@ digits_sound n (b ∷ t) m u e =
       | inl h ↦
           let k = kept (nat_lt next (2 ^ 31)) (digits next t) (m, u) h.1 in
           let r = digits_sound next t m u k.1 in
-          record { ds = b ∷ r.ds; text = ap (λ (w : Text). b ∷ w) r.text; value = r.value; each = rw h.0 r.each; high = λ lt. r.high (below next (2 ^ 31) k.0) }
+          record { ds = b ∷ r.ds; text = ap (λ (w : Text). b ∷ w) r.text; value = r.value; each = rw h.0 r.each; high = λ lt. r.high (ltb-true next (2 ^ 31) k.0) }
       | inr h ↦
           subst (λ (r : ℕ × Text). AreDigits n (b ∷ t) r) (some_is (n, b ∷ t) (m, u) h.1) (record { ds = []; text = refl; value = refl; each = refl; high = λ lt. lt })
     ]
@@ -97,10 +98,10 @@ unfolding digits
 digits_complete n [] [] each longest lt = refl
 digits_complete n [] (b ∷ u) each longest lt = rw longest refl
 digits_complete n (d ∷ ds) u each longest lt =
-    let k = both (is_ascii_digit d) (list_all is_ascii_digit ds) each in
+    let k = and_parts (is_ascii_digit d) (list_all is_ascii_digit ds) each in
     let next : ℕ = 10 * n + (d - 48) in
     let room : next < 2 ^ 31 = omega (arith, grows next ds, lt) in
-    rw (k.0, is_below next (2 ^ 31) room) (digits_complete next ds u k.1 longest lt)
+    rw (k.0, lt-ltb next (2 ^ 31) room) (digits_complete next ds u k.1 longest lt)
 
 record HasNumber (t : Text) (id : ℕ) (u : Text) : Type 0 where
   ds : List ℕ
@@ -128,7 +129,7 @@ number_sound (b ∷ t) id u e =
       ds = b ∷ r.ds;
       text = ap (λ (w : Text). b ∷ w) r.text;
       is = record {
-        decimal = together (is_ascii_digit b) (list_all is_ascii_digit r.ds) k.0 r.each;
+        decimal = and_from (is_ascii_digit b) (list_all is_ascii_digit r.ds) k.0 r.each;
         leading = n.0;
         value = ap (λ m. from m r.ds) start ∙ r.value;
         low = omega (arith, more, first);
@@ -140,7 +141,7 @@ number_complete : (ds : List ℕ) (id : ℕ) (u : Text) → IsNumber ds id → b
 unfolding number
 number_complete [] id u is longest = absurd (omega (arith, is.value, is.low))
 number_complete (d ∷ ds) id u is longest =
-    let k = both (is_ascii_digit d) (list_all is_ascii_digit ds) is.decimal in
+    let k = and_parts (is_ascii_digit d) (list_all is_ascii_digit ds) is.decimal in
     let start : 10 * 0 + (d - 48) ≡ d - 48 = omega arith in
     let value : from (d - 48) ds ≡ id = ap (λ m. from m ds) (sym start) ∙ is.value in
     rw (k.0, is.leading) (digits_complete (d - 48) ds u k.1 longest (omega (arith, value, is.high)) ∙ ap (λ (m : ℕ). Some (m, u)) value)
@@ -156,7 +157,7 @@ keyword_of b t read letter r =
     let name : b ∷ r.xs ≡ read.0 = sym r.value in
     record {
       text = ap (λ (w : Text). b ∷ w) r.text ∙ ap (λ (w : Text). w ++ read.1) name;
-      is = subst IsKeyword name (record { some = omega arith; letters = together (is_ascii_uppercase b) (list_all is_ascii_uppercase r.xs) letter r.each });
+      is = subst IsKeyword name (record { some = omega arith; letters = and_from (is_ascii_uppercase b) (list_all is_ascii_uppercase r.xs) letter r.each });
     }
 
 keyword_sound : (t name u : Text) → keyword t ≡ Some (name, u) → HasKeyword t name u
@@ -172,7 +173,7 @@ keyword_complete : (name u : Text) → IsKeyword name → begins is_ascii_upperc
 unfolding keyword
 keyword_complete [] u is longest = absurd (omega (arith, is.some))
 keyword_complete (c ∷ cs) u is longest =
-    let k = both (is_ascii_uppercase c) (list_all is_ascii_uppercase cs) is.letters in
+    let k = and_parts (is_ascii_uppercase c) (list_all is_ascii_uppercase cs) is.letters in
     rw k.0 (ap (λ (r : List ℕ × Text). Some r) (run_complete is_ascii_uppercase [] (c ∷ cs) u is.letters longest))
 
 -- ---- parameters
@@ -184,7 +185,7 @@ record HasParameter (t : Text) (read : Value × Text) : Type 0 where
 
 absent_of : (b : ℕ) (t : Text) (read : Value × Text) → (b == 36) ≡ true → Some (made.absent, t) ≡ Some read → HasParameter (b ∷ t) read
 absent_of b t read dollar e =
-    let same : b ≡ 36 = equal_number b 36 dollar in
+    let same : b ≡ 36 = eqb-true b 36 dollar in
     subst (λ (r : Value × Text). HasParameter (b ∷ t) r) (some_is (made.absent, t) read e) (record { p = 36 ∷ []; text = ap (λ (c : ℕ). c ∷ t) same; is = IsParameter.absent })
 
 text_of : (t : Text) (ran : List ℕ × Text) (read : Value × Text) → IsRun is_ascii_alphanumeric [] t ran → quoted ran ≡ Some read → HasParameter (39 ∷ t) read
@@ -206,7 +207,7 @@ parameter_sound (b ∷ t) read e =
       | inl h ↦ absent_of b t read h.0 h.1
       | inr h ↦
           let k = kept (b == 39) (quoted ran) read h.1 in
-          let same : 39 ≡ b = sym (equal_number b 39 k.0) in
+          let same : 39 ≡ b = sym (eqb-true b 39 k.0) in
           subst (λ (c : ℕ). HasParameter (c ∷ t) read) same (text_of t ran read (run_sound is_ascii_alphanumeric [] t) k.1)
     ]
 
@@ -232,7 +233,7 @@ behind_sound_at before value t p (b ∷ w) read text is inner e =
     elim (chosen (b == 44) (parameters (before ++ value ∷ []) w) (cond (b == 41) (Some (before ++ value ∷ [], w)) None) (Some read) e) [
       | inl h ↦
           let r = inner w (omega arith) h.1 in
-          let comma : b ≡ 44 = equal_number b 44 h.0 in
+          let comma : b ≡ 44 = eqb-true b 44 h.0 in
           record {
             values = value ∷ r.values;
             p = p ++ 44 ∷ [] ++ r.p;
@@ -242,7 +243,7 @@ behind_sound_at before value t p (b ∷ w) read text is inner e =
           }
       | inr h ↦
           let k = kept (b == 41) (Some (before ++ value ∷ [], w)) read h.1 in
-          let end : b ≡ 41 = equal_number b 41 k.0 in
+          let end : b ≡ 41 = eqb-true b 41 k.0 in
           let same : (before ++ value ∷ [], w) ≡ read = some_is (before ++ value ∷ [], w) read k.1 in
           subst (λ (x : List Value × Text). HasParameters before t x) same (record {
             values = value ∷ [];

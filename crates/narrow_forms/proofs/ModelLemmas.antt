@@ -1,6 +1,7 @@
 -- Steps through the lines of a model file.
-use Rattle.std.proofs.Common.{◌≡◌, ℕ, ◌<◌, Bool, true, false, not, ◌&&◌, ◌||◌, cond, List, [], ◌∷◌, ◌++◌, Some, Ok, Err, length, nat_lt, ◌==◌, refl, ap, ◌∙◌, sym, arith, codes}
-use Rattle.std.proofs.lemmas.Bool.Decides.{nat_tests}
+use Rattle.std.proofs.Common.{◌≡◌, ℕ, ◌<◌, Bool, true, false, not, ◌||◌, cond, List, [], ◌∷◌, ◌++◌, Some, Ok, Err, length, ◌==◌, refl, ap, ◌∙◌, sym, arith, codes}
+use Rattle.std.proofs.Math.Bool.{and-false}
+use Rattle.std.proofs.lemmas.Bool.{not-false, not-true, lt-ltb}
 use Rattle.std.proofs.lemmas.List.Folds.{list_any-append}
 use Rattle.std.specs.List.{list_any}
 use Rattle.std.specs.Cmp.{unsigned_ties}
@@ -16,36 +17,21 @@ use Rattle.narrow_forms.specs.Model.{instances, end_of_section, header, last_lin
 abbrev stands : List Instance → ℕ → Bool
 stands before id = list_any (λ y. y.id == id) before
 
-not_false : (b : Bool) → false ≡ not b → b ≡ true
-not_false true e = refl
-not_false false e = cc
-
-not_true : (b : Bool) → true ≡ not b → b ≡ false
-not_true true e = cc
-not_true false e = refl
-
-neither : (p : Bool) → (p && false) ≡ false
-neither true = refl
-neither false = refl
-
-lt_is_true : (a b : ℕ) → a < b → nat_lt a b ≡ true
-lt_is_true a b lt = grind (arith, nat_tests)
-
 module _ (most : ℕ) (before : List Instance) (first : List ℕ) (lines : Lines) (x : Instance) (other : false ≡ bytes_eq first end_of_section) (is : instance_of first ≡ Some x) where
   -- an instance whose id stands before
   pub id_refused : (id : ℕ) (has added : Bool) → id ≡ x.id → has ≡ stands before id → added ≡ not has → added ≡ false → instances most before (line first lines) ≡ Err (line first lines)
   unfolding instances
   id_refused id has added same e f g =
-      let there : stands before x.id ≡ true = ap (stands before) (sym same) ∙ sym e ∙ not_false has (sym g ∙ f) in
-      rw (← other, is, there, neither) refl
+      let there : stands before x.id ≡ true = ap (stands before) (sym same) ∙ sym e ∙ not-false has (sym f ∙ g) in
+      rw (← other, is, there, and-false) refl
 
   -- an instance with a new id
   pub one_more : (id : ℕ) (has added : Bool) → id ≡ x.id → has ≡ stands before id → added ≡ not has → added ≡ true → length before < most
       → instances most before (line first lines) ≡ instances most (before ++ x ∷ []) lines
   unfolding instances
   one_more id has added same e f g room =
-      let new : stands before x.id ≡ false = ap (stands before) (sym same) ∙ sym e ∙ not_true has (sym g ∙ f) in
-      rw (← other, is, new, lt_is_true (length before) most room) refl
+      let new : stands before x.id ≡ false = ap (stands before) (sym same) ∙ sym e ∙ not-true has (sym f ∙ g) in
+      rw (← other, is, new, lt-ltb (length before) most room) refl
 
 either : (p q : Bool) → cond p true q ≡ (q || (p || false))
 either true true = refl

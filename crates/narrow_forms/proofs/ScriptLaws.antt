@@ -1,5 +1,6 @@
 -- The lines of a script that is read stand in the order in which they may come.
 use Rattle.std.proofs.Common.{◌≡◌, ℕ, Bool, true, false, not, ◌||◌, cond, List, [], ◌∷◌, ◌++◌, length, Option, Some, None, Result, Ok, Err, ◌==◌, option_map, refl, ap, ◌∙◌, sym}
+use Rattle.std.proofs.lemmas.Bool.{or_parts}
 use Rattle.std.specs.Prelude.{IfOk, option_and_then}
 use Rattle.ifc_base.specs.declared.memory.Refusal.{Refusal}
 use Rattle.audit_model.specs.ScriptOrder.{may_come, drafts_after, holds_after, IsOrderly, AreOrderly}
@@ -15,7 +16,6 @@ use Rattle.narrow_forms.specs.Lines.{Lines, cut, left, line}
 use Rattle.narrow_forms.specs.Model.{Read, ◌>>=◌, with_line}
 use Rattle.narrow_forms.specs.ScriptLine.{line_meaning, without_return}
 use Rattle.narrow_forms.specs.Script.{fresh, edits_after, with_act, act_step, with_phase, end_step, line_step, after_line, read_at, script_lines, finished, script, script_reading}
-use Rattle.narrow_forms.proofs.Tools.{neither}
 
 -- ---- steps that did not fail
 
@@ -107,7 +107,7 @@ end_is : (w next : Writing) → end_step w ≡ Some next → IsWritten w → IsW
 unfolding end_step
 end_is w next e is =
     let k = passed (w.drafting || w.holding) (Some (with_phase w)) next e in
-    let n = neither w.drafting w.holding k.0 in
+    let n = or_parts w.drafting w.holding k.0 in
     let more : IsWritten (with_phase w) = record {
       phases = phase_more w.phases (record { lines = w.lines }) is.phases (orderly_course w.lines false false w.drafting w.holding is.lines n.0 n.1);
       lines = (sym n.0, sym n.1);

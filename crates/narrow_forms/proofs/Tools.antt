@@ -1,6 +1,6 @@
 -- Steps that did not fail, tests, and equal numbers and texts.
-use Rattle.std.proofs.Common.{◌≡◌, ℕ, Bool, true, false, ◌&&◌, ◌||◌, cond, List, Option, Some, None, ◌==◌, ◌<◌, nat_lt, arith, refl, sym, ◌⊎◌, inl, inr}
-use Rattle.std.proofs.lemmas.Bool.Decides.{nat_tests}
+use Rattle.std.proofs.Common.{◌≡◌, ℕ, Bool, true, false, cond, List, Option, Some, None, ◌==◌, refl, sym, ◌⊎◌, inl, inr}
+use Rattle.std.proofs.lemmas.Bool.{eqb-false, ne_eqb}
 use Rattle.std.specs.Cmp.{unsigned_Decides}
 use Rattle.std.specs.Str.{bytes_eq}
 use Rattle.std.proofs.lemmas.Slice.Eq.{bytes_eq-Decides}
@@ -9,20 +9,6 @@ use Rattle.narrow_forms.specs.InstanceLine.{◌>>=◌}
 pub false_or_true : (b : Bool) → (b ≡ false) ⊎ (b ≡ true)
 false_or_true true = inr refl
 false_or_true false = inl refl
-
--- both of two tests that hold together
-pub both : (a b : Bool) → (a && b) ≡ true → (a ≡ true) × (b ≡ true)
-both true b e = (refl, e)
-both false b e = absurd cc
-
-pub together : (a b : Bool) → a ≡ true → b ≡ true → (a && b) ≡ true
-together true b e f = f
-together false b e f = absurd cc
-
--- neither of two tests, one of which does not hold
-pub neither : (a b : Bool) → (a || b) ≡ false → (a ≡ false) × (b ≡ false)
-neither true b e = absurd cc
-neither false b e = (refl, e)
 
 -- the value of a step that did not fail
 pub bound : {A B : Type 0} {read : Option A} {f : A → Option B} {y : B} → (read >>= f) ≡ Some y → (x : A) × (read ≡ Some x) × (f x ≡ Some y)
@@ -50,9 +36,6 @@ done x = Some x
 pub some_is : {A : Type 0} (x y : A) → done x ≡ done y → x ≡ y
 some_is x y e = cc
 
-pub equal_number : (a b : ℕ) → (a == b) ≡ true → a ≡ b
-equal_number a b e = (unsigned_Decides a b).0 e
-
 pub equal_text : (xs ys : List ℕ) → bytes_eq xs ys ≡ true → xs ≡ ys
 equal_text xs ys e = (bytes_eq-Decides xs ys).0 e
 
@@ -62,15 +45,5 @@ same_text xs = (bytes_eq-Decides xs xs).1 refl
 pub itself : (n : ℕ) → (n == n) ≡ true
 itself n = (unsigned_Decides n n).1 refl
 
-pub below : (a b : ℕ) → nat_lt a b ≡ true → a < b
-below a b e = grind (arith, nat_tests)
-
-pub is_below : (a b : ℕ) → a < b → nat_lt a b ≡ true
-is_below a b lt = grind (arith, nat_tests)
-
 pub not_back : (a b : ℕ) → (a == b) ≡ false → (b == a) ≡ false
-not_back a b e =
-    elim (false_or_true (b == a)) [
-      | inl h ↦ h
-      | inr h ↦ let same : (a == b) ≡ true = (unsigned_Decides a b).1 (sym (equal_number b a h)) in absurd cc
-    ]
+not_back a b e = ne_eqb b a (λ same. eqb-false a b e (sym same))

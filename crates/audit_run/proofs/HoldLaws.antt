@@ -18,7 +18,7 @@ use Rattle.audit_model.proofs.Claims.{IsSound, sound_out}
 use Rattle.audit_model.proofs.Commits.{model_of-last}
 use Rattle.audit_model.proofs.HistoryLaws.{earlier_models_stay}
 use Rattle.audit_model.proofs.Numbers.{out_numbers}
-use Rattle.audit_model.proofs.Tests.{Each, Each-found, or_true}
+use Rattle.audit_model.proofs.Tests.{Each, Each-found, or_true, Each-all}
 use Rattle.model_view.specs.Views.{ClaimView}
 use Rattle.audit_core.specs.Cores.{now_in}
 use Rattle.audit_core.specs.Steps.{given_of}
@@ -49,14 +49,6 @@ LeavesOut h e t = claim_numbered t.claim.number (out h) ≡ Some (given_of t.act
 pub all_taken : (g : Ground) (h : List StepRec) (e : StepRec) (ts : List Taken) → Legal g h → Each (LeavesOut h e) ts → AreTaken g h ts → AreTaken g (e ∷ h) ts
 all_taken g h e [] l keeps k = tt
 all_taken g h e (t ∷ ts) l keeps k = (still_taken g h e t l keeps.0 k.0, (k.1.0, all_taken g h e ts l keeps.1 k.1.1))
-
-pub each_all : {X : Type 0} (P : X → Type 0) → ((x : X) → P x) → (xs : List X) → Each P xs
-each_all P f [] = tt
-each_all P f (x ∷ xs) = (f x, each_all P f xs)
-
-pub each_map : {X : Type 0} (P Q : X → Type 0) → ((x : X) → P x → Q x) → (xs : List X) → Each P xs → Each Q xs
-each_map P Q f [] h = tt
-each_map P Q f (x ∷ xs) h = (f x h.0, each_map P Q f xs h.1)
 
 -- New claims.
 
@@ -93,7 +85,7 @@ taken_more g h ts actor c l m now o k =
     let e : StepRec = record { actor = actor; call = Claim; reply = Claimed c.number c.pair c.snapshot.revision } in
     let next : c.number ≡ given h + 1 = claim_number (least_claimable g h) (given h + 1) c.number c.snapshot.revision (revision h) c.pair m in
     taken_push g (e ∷ h) (given h) ts (record { actor = actor; claim = c }) (all_known g h ts l k) (omega (arith, next))
-    (all_taken g h e ts l (each_all (LeavesOut h e) (claimed_leaves h actor c.number c.snapshot.revision c.pair) ts) k)
+    (all_taken g h e ts l (Each-all (LeavesOut h e) (claimed_leaves h actor c.number c.snapshot.revision c.pair) ts) k)
     (record { is_out = o; snapshot_is = rw now (sym (model_of-last g (commits h))) })
 
 -- Ended claims.

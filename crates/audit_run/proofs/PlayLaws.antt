@@ -9,7 +9,7 @@ use Rattle.audit_model.specs.declared.step.Reply.{Reply}
 use Rattle.audit_model.specs.declared.step.Reply.TheVariants as reply
 use Rattle.audit_model.specs.History.{revision, out, claim_numbered}
 use Rattle.audit_model.specs.Machine.{Legal, MayFollow}
-use Rattle.audit_model.proofs.Tests.{Each}
+use Rattle.audit_model.proofs.Tests.{Each, Each-all, Each-weaker}
 use Rattle.model_view.specs.Views.{ClaimView, DraftView, FindingView, SnapshotView}
 use Rattle.model_view.specs.declared.answers.NotPrepared.{NotPrepared}
 use Rattle.model_view.specs.declared.answers.NotPrepared.TheVariants as unprepared
@@ -27,7 +27,7 @@ use Rattle.audit_run.specs.declared.calls.Act.TheVariants as act
 use Rattle.audit_run.specs.declared.calls.Asked.{Asked}
 use Rattle.audit_run.specs.Holding.{HandsView, IsTaken, AreTaken, AreBegun, begins, has_begun, taken_as, claim_of, other_claims, IsFindingOf}
 use Rattle.audit_run.specs.Runs.{IsCallOf, IsEntryOf, IsStep, IsRun, reported, reports, IsHolding, IsPlayed, IsPlay}
-use Rattle.audit_run.proofs.HoldLaws.{LeavesOut, Differs, AreParted, all_taken, each_all, each_map, taken_more, delivery_leaves, return_leaves, parted_first, begun_more, begun_push}
+use Rattle.audit_run.proofs.HoldLaws.{LeavesOut, Differs, AreParted, all_taken, taken_more, delivery_leaves, return_leaves, parted_first, begun_more, begun_push}
 
 -- Playing.
 
@@ -71,7 +71,7 @@ pub began : {old new : CoreView} {hands : HandsView} (actor : ℕ) (drafts : Lis
 began {old = old} {new = new} {hands = hands} actor drafts base k a p =
     let e : StepRec = record { actor = actor; call = call.Begin; reply = reply.Began base.revision } in
     let begun : begins actor base.revision e ≡ true = and_from (actor == actor) (base.revision == base.revision) (eq-eqb actor actor refl) (eq-eqb base.revision base.revision refl) in
-    let on : IsHolding new (record { drafts = drafts; claims = hands.claims }) = holding_after drafts hands.claims a k.legal k.claims (each_all (LeavesOut old.history e) (λ t e'. e') hands.claims) p in
+    let on : IsHolding new (record { drafts = drafts; claims = hands.claims }) = holding_after drafts hands.claims a k.legal k.claims (Each-all (LeavesOut old.history e) (λ t e'. e') hands.claims) p in
     played_by (record { drafts = drafts ++ record { actor = actor; base = base } ∷ []; claims = hands.claims }) (record { actor = actor; act = act.Begin }) [] a (record { by = refl; of = tt }) refl
     (record {
       legal = on.legal;
@@ -85,7 +85,7 @@ pub committed : {old new : CoreView} {hands : HandsView} (actor base : ℕ) (edi
     IsPlayed old new (record { drafts = drafts; claims = hands.claims }) (record { actor = actor; act = act.Commit edits }) []
 committed {old = old} {hands = hands} actor base edits told drafts k a r b p =
     played_by (record { drafts = drafts; claims = hands.claims }) (record { actor = actor; act = act.Commit edits }) [] a (record { by = refl; of = (refl, b) }) r
-    (holding_after drafts hands.claims a k.legal k.claims (each_all (LeavesOut old.history (record { actor = actor; call = call.Commit base edits; reply = told })) (λ t e. e) hands.claims) p)
+    (holding_after drafts hands.claims a k.legal k.claims (Each-all (LeavesOut old.history (record { actor = actor; call = call.Commit base edits; reply = told })) (λ t e. e) hands.claims) p)
 
 pub not_committed : {old new : CoreView} {hands : HandsView} (actor : ℕ) (draft : DraftView) (drafts : List Begun) (r : NotPrepared) → IsHolding old hands → IsNotPrepared old new actor draft r → has_begun old.history actor draft.base.revision ≡ true → AreBegun old.history drafts →
     IsPlayed old new (record { drafts = drafts; claims = hands.claims }) (record { actor = actor; act = act.Commit draft.edits }) []
@@ -109,7 +109,7 @@ took {old = old} {hands = hands} actor claim k a given =
 pub idle : {old new : CoreView} {hands : HandsView} (actor : ℕ) → IsHolding old hands → Adds old new (record { actor = actor; call = call.Claim; reply = reply.Idle }) → IsPlayed old new hands (record { actor = actor; act = act.Take }) []
 idle {old = old} {hands = hands} actor k a =
     played_by hands (record { actor = actor; act = act.Take }) [] a (record { by = refl; of = tt }) refl
-    (holding_after hands.drafts hands.claims a k.legal k.claims (each_all (LeavesOut old.history (record { actor = actor; call = call.Claim; reply = reply.Idle })) (λ t e. e) hands.claims) k.drafts)
+    (holding_after hands.drafts hands.claims a k.legal k.claims (Each-all (LeavesOut old.history (record { actor = actor; call = call.Claim; reply = reply.Idle })) (λ t e. e) hands.claims) k.drafts)
 
 -- Ending claims.
 
@@ -129,7 +129,7 @@ pub gave : {old new : CoreView} {hands : HandsView} (actor number : ℕ) (claim 
     Adds old new (record { actor = actor; call = call.Deliver number; reply = delivery_told told }) → IsPlayed old new (record { drafts = hands.drafts; claims = rest }) (record { actor = actor; act = act.Give }) []
 gave {old = old} {hands = hands} actor number claim told rest k p n a =
     played_by (record { drafts = hands.drafts; claims = rest }) (record { actor = actor; act = act.Give }) [] a (record { by = refl; of = tt }) (quiet told)
-    (holding_after hands.drafts rest a k.legal p.rest (each_map (Differs claim.number) (LeavesOut old.history (record { actor = actor; call = call.Deliver number; reply = delivery_told told })) (λ t d. delivery_leaves old.history actor number (delivery_told told) t (rw n d)) rest p.differ) k.drafts) where
+    (holding_after hands.drafts rest a k.legal p.rest (Each-weaker (Differs claim.number) (LeavesOut old.history (record { actor = actor; call = call.Deliver number; reply = delivery_told told })) (λ t d. delivery_leaves old.history actor number (delivery_told told) t (rw n d)) rest p.differ) k.drafts) where
       quiet : (told : Delivered) → reported old.ground old.history (delivery_told told) ≡ []
       quiet delivered.Used = refl
       quiet (delivered.Stale key revision) = refl
@@ -139,7 +139,7 @@ pub gave_back : {old new : CoreView} {hands : HandsView} (act' : Act) (actor num
     Adds old new (record { actor = actor; call = call.GiveBack number; reply = reply.Back }) → IsPlayed old new (record { drafts = hands.drafts; claims = rest }) (record { actor = actor; act = act' }) []
 gave_back {old = old} {hands = hands} act' actor number claim rest of k p n a =
     played_by (record { drafts = hands.drafts; claims = rest }) (record { actor = actor; act = act' }) [] a (record { by = refl; of = of }) refl
-    (holding_after hands.drafts rest a k.legal p.rest (each_map (Differs claim.number) (LeavesOut old.history (record { actor = actor; call = call.GiveBack number; reply = reply.Back })) (λ t d. return_leaves old.history actor number t (rw n d)) rest p.differ) k.drafts)
+    (holding_after hands.drafts rest a k.legal p.rest (Each-weaker (Differs claim.number) (LeavesOut old.history (record { actor = actor; call = call.GiveBack number; reply = reply.Back })) (λ t d. return_leaves old.history actor number t (rw n d)) rest p.differ) k.drafts)
 
 -- the same after a call that added no entry
 pub gave_back_after : {old mid new : CoreView} {hands : HandsView} (act' : Act) (actor number : ℕ) (claim : ClaimView) (rest : List Taken) → IsCallOf old.history actor act' (call.GiveBack number) → IsHolding old hands → AreParted old.ground old.history (record { actor = actor; claim = claim }) rest → number ≡ claim.number → Unchanged old mid →
@@ -156,7 +156,7 @@ pub published : {old new : CoreView} {hands : HandsView} (actor : ℕ) (told : R
     IsPlayed old new hands (record { actor = actor; act = act.Publish }) texts
 published {old = old} {hands = hands} actor told texts k a r =
     played_by hands (record { actor = actor; act = act.Publish }) texts a (record { by = refl; of = tt }) r
-    (holding_after hands.drafts hands.claims a k.legal k.claims (each_all (LeavesOut old.history (record { actor = actor; call = call.Publish; reply = told })) (λ t e. e) hands.claims) k.drafts)
+    (holding_after hands.drafts hands.claims a k.legal k.claims (Each-all (LeavesOut old.history (record { actor = actor; call = call.Publish; reply = told })) (λ t e. e) hands.claims) k.drafts)
 
 -- Runs.
 

@@ -1,6 +1,7 @@
 -- Who makes the entries of a phase, and how many of them end one.
-use Rattle.std.proofs.Common.{◌≡◌, ℕ, zero, suc, ◌<◌, ◌≤◌, ◌+◌, Bool, true, false, not, cond, ◌&&◌, ◌==◌, nat_le, List, [], ◌∷◌, ◌++◌, length, Option, Some, None, filter, arith, refl, ap, sym, subst, ◌∙◌}
-use Rattle.std.proofs.lemmas.Bool.{ne_eqb, le-leb, leb-true, and_parts}
+use Rattle.std.proofs.Common.{◌≡◌, ℕ, suc, ◌≤◌, ◌+◌, Bool, true, false, not, cond, ◌&&◌, ◌==◌, nat_le, List, [], ◌∷◌, ◌++◌, length, arith, refl, ap, sym, subst, ◌∙◌}
+use Rattle.std.proofs.Math.Bool.{and-false}
+use Rattle.std.proofs.lemmas.Bool.{le-leb, leb-true, and_parts, and_right}
 use Rattle.std.proofs.lemmas.List.{append_assoc}
 use Rattle.audit_model.specs.declared.step.StepRec.{StepRec}
 use Rattle.audit_model.specs.declared.step.Given.{Given}
@@ -16,12 +17,11 @@ use Rattle.audit_model.specs.Machine.{is_full, pairs_now, publish_reply}
 use Rattle.audit_model.specs.Output.{ends_phase, is_report, entry_text, report_in}
 use Rattle.audit_model.specs.ScriptLines.{Place, entry, free}
 use Rattle.audit_model.specs.ScriptOrder.{IsOrderly, drafts_after, holds_after}
-use Rattle.audit_model.specs.Serial.{Done, done, ended, act_done, rounds, and_then, publish_done, drain_done, Run, moved, line_run, lines_run, sync_run}
+use Rattle.audit_model.specs.Serial.{Done, done, ended, act_done, rounds, publish_done, drain_done, Run, moved, line_run, lines_run, sync_run}
 use Rattle.audit_model.specs.Telling.{Told, told, is_of_one_editor}
 use Rattle.serial_run.specs.Growth.{IsLater, returns, returned}
 use Rattle.serial_run.specs.Quiet.{AreQuiet, GoesOn}
 use Rattle.serial_run.specs.Runs.{ends}
-use Rattle.serial_run.proofs.Growing.{same, act_grows}
 use Rattle.serial_run.proofs.Quieting.{act_quiet, publishes, rounds_quiet}
 use Rattle.audit_model.proofs.Tests.{Each}
 
@@ -59,10 +59,7 @@ adds_last e h le = record {
 adds_quiet : (who : ℕ) (es h : List StepRec) → who ≤ 1 → AreQuiet who es → Adds 0 h (es ++ h)
 adds_quiet who [] h le q = adds_nothing h
 adds_quiet who (e ∷ es) h le q =
-    adds_joined 0 0 h (es ++ h) (e ∷ (es ++ h)) (adds_quiet who es h le q.2) (adds_entry e (es ++ h) (omega (arith, le, q.0)) (no_end (e.actor == 0) q.1)) where
-      no_end : (b : Bool) → is_report e.reply ≡ false → (b && is_report e.reply) ≡ false
-      no_end true f = f
-      no_end false f = refl
+    adds_joined 0 0 h (es ++ h) (e ∷ (es ++ h)) (adds_quiet who es h le q.2) (adds_entry e (es ++ h) (omega (arith, le, q.0)) (and_right (e.actor == 0) (is_report e.reply) q.1))
 
 adds_going : (who : ℕ) (h k : List StepRec) → who ≤ 1 → GoesOn who h k → Adds 0 h k
 adds_going who h k le on = subst (λ (x : List StepRec). Adds 0 h x) (sym on.1) (adds_quiet who on.0 h le on.2)
@@ -205,10 +202,7 @@ returns_add [] h k = adds_nothing h
 returns_add (c ∷ cs) h k =
     let e : StepRec = entry c.actor (calls.GiveBack c.number) reply.Back in
     subst (λ (x : List StepRec). Adds 0 h x) (sym (append_assoc (returns cs) (e ∷ []) h))
-    (adds_joined 0 0 h (e ∷ h) (returns cs ++ (e ∷ h)) (adds_entry e h k.0 (no_end (c.actor == 0))) (returns_add cs (e ∷ h) k.1)) where
-      no_end : (b : Bool) → (b && false) ≡ false
-      no_end true = refl
-      no_end false = refl
+    (adds_joined 0 0 h (e ∷ h) (returns cs ++ (e ∷ h)) (adds_entry e h k.0 (and-false (c.actor == 0))) (returns_add cs (e ∷ h) k.1))
 
 pub returned_adds : (h : List StepRec) → is_of_one_editor h ≡ true → Adds 0 h (returned h)
 returned_adds h o = returns_add (out h) h (out_low h o)

@@ -1,5 +1,6 @@
 -- The drain at the end of a phase.
 use Rattle.std.proofs.Common.{◌≡◌, ℕ, suc, ◌+◌, Bool, true, false, cond, List, [], ◌∷◌, ◌++◌, length, reverse, Ok, ◌⊎◌, inl, inr, arith, refl, ap, sym, subst, ◌∙◌}
+use Rattle.audit_model.proofs.DrainLaws.{turned}
 use Rattle.std.proofs.lemmas.Bool.{true≢false}
 use Rattle.audit_model.specs.declared.verdict.Pair.{Pair}
 use Rattle.audit_model.specs.declared.step.StepRec.{StepRec}
@@ -24,7 +25,7 @@ use Rattle.serial_run.specs.Quiet.{GoesOn}
 use Rattle.serial_run.specs.Course.{IsStopped, AreRounds}
 use Rattle.serial_run.specs.Turns.{IsFree}
 use Rattle.serial_run.specs.Running.{Drains, IsSound, ends_now}
-use Rattle.serial_run.proofs.Growing.{turned, same, one_more, joined, roomy, rounds_grow}
+use Rattle.serial_run.proofs.Growing.{same, one_more, joined, roomy, rounds_grow}
 use Rattle.serial_run.proofs.Quieting.{rounds_quiet, told_nothing, one_editor}
 use Rattle.serial_run.proofs.Turning.{legal_next}
 

@@ -1,6 +1,6 @@
 -- The journal of a script of one editor falls into its phases.
 use Rattle.std.proofs.Common.{◌≡◌, ℕ, zero, suc, ◌<◌, ◌+◌, Bool, true, false, cond, not, List, [], ◌∷◌, ◌++◌, reverse, Option, Some, None, ◌⊎◌, inl, inr, is_some, arith, refl, ap, sym, subst, ◌∙◌}
-use Rattle.std.proofs.lemmas.Bool.{eq-eqb, true≢false}
+use Rattle.std.proofs.lemmas.Bool.{eq-eqb, true≢false, not-true}
 use Rattle.std.proofs.lemmas.List.{append-nil, append_assoc, reverse-append, reverse-reverse}
 use Rattle.audit_model.specs.declared.commit.Edit.{Edit}
 use Rattle.audit_model.specs.declared.verdict.Pair.{Pair}
@@ -21,12 +21,12 @@ use Rattle.audit_model.specs.Drain.{caller_entry, drain_from, drain_after, unset
 use Rattle.audit_model.specs.ScriptLines.{Place, place, free, number_in, entry, commit_of, deliver_of, Turns, Rounds, Does, FollowsFrom, own}
 use Rattle.audit_model.specs.ScriptOrder.{IsOrderly, AreOrderly, may_come, drafts_after, holds_after}
 use Rattle.audit_model.specs.Serial.{Done, done, ended, with_room, given_to, with_delivery, after_delivery, after_claim, rounds, commit_done, give_done, act_done, drain_done, Run, fresh, moved, line_run, lines_run, sync_run, phases_run, serial}
-use Rattle.audit_model.proofs.DrainLaws.{drain_follows}
+use Rattle.audit_model.proofs.DrainLaws.{drain_follows, turned}
 use Rattle.audit_model.proofs.RunLaws.{drain_ends}
 use Rattle.audit_model.proofs.RunLegal.{serial_is_legal}
 use Rattle.serial_run.specs.Growth.{IsLater}
 use Rattle.serial_run.specs.Phased.{AllBy, EndsReported, IsPhaseOf, ArePhases, ScriptIsPhased}
-use Rattle.serial_run.proofs.Growing.{turned, sync_grows, phases_grow}
+use Rattle.serial_run.proofs.Growing.{sync_grows, phases_grow}
 use Rattle.serial_run.proofs.Turning.{given_to_self, none_left}
 use Rattle.serial_run.proofs.Phasing.{drafted_some, lines_full, phases_full}
 
@@ -197,12 +197,8 @@ give_goes g who (Some (Some n)) p h e k =
       held = ap (λ (x : List StepRec). out x) is ∙ none_left n (out h) k.0 k.1 k.2;
     }
 
-pub not_true : (b : Bool) → not b ≡ true → b ≡ false
-not_true true e = absurd (cc)
-not_true false e = refl
-
 pub none_yet : (who : ℕ) (h : List StepRec) (p : Place) → not (is_some p.held) ≡ true → HeldIn who (out h) p.held → out h ≡ []
-none_yet who h p may k = none_held who (out h) p.held (not_true (is_some p.held) may) k
+none_yet who h p may k = none_held who (out h) p.held (not-true (is_some p.held) may) k
 
 held_none : (who : ℕ) (cs : List Given) (o : Option (Option ℕ)) → is_some o ≡ false → cs ≡ [] → HeldIn who cs o
 held_none who cs None e k = k
@@ -233,7 +229,7 @@ act_goes g who Take p h may k =
     (λ going. record { entries = entry who calls.Claim reply ∷ []; history = refl; does = (reply, refl, refl); by = (refl, tt); held = claim_held who reply (out h) (none_yet who h p may k) })
 act_goes g who Give p h may k = give_goes g who p.held p h refl k
 act_goes g who (Work n) p h may k =
-    λ going. worked_goes who n p h (rounds g who n p h) (not_true (is_some p.held) may) (rounds_on g who n p h (none_yet who h p may k) going)
+    λ going. worked_goes who n p h (rounds g who n p h) (not-true (is_some p.held) may) (rounds_on g who n p h (none_yet who h p may k) going)
 
 -- What a line leaves open.
 

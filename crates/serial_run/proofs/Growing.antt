@@ -1,6 +1,6 @@
 -- What a script leads to goes on from what was there.
-use Rattle.std.proofs.Common.{◌≡◌, ℕ, zero, suc, Bool, true, false, cond, List, [], ◌∷◌, ◌++◌, length, reverse, Option, Some, None, refl, ap, sym, ◌∙◌}
-use Rattle.std.proofs.lemmas.List.{append_assoc, reverse-append}
+use Rattle.std.proofs.Common.{ℕ, zero, suc, Bool, true, false, cond, List, [], ◌∷◌, ◌++◌, length, Option, Some, None, refl, ap, sym, ◌∙◌}
+use Rattle.std.proofs.lemmas.List.{append_assoc}
 use Rattle.audit_model.specs.declared.commit.Edit.{Edit}
 use Rattle.audit_model.specs.declared.step.StepRec.{StepRec}
 use Rattle.audit_model.specs.declared.step.Given.{Given}
@@ -16,9 +16,6 @@ use Rattle.audit_model.specs.Machine.{claim_reply, is_full, pairs_now}
 use Rattle.audit_model.specs.ScriptLines.{Place, entry, free}
 use Rattle.audit_model.specs.Serial.{Done, ended, with_room, given_to, with_delivery, after_delivery, after_claim, rounds, commit_done, give_done, act_done, publish_done, drain_done, Run, line_run, lines_run, sync_run, phases_run}
 use Rattle.serial_run.specs.Growth.{IsLater}
-
-pub turned : (e : StepRec) (es h : List StepRec) → reverse (e ∷ es) ++ h ≡ reverse es ++ (e ∷ h)
-turned e es h = ap (λ (xs : List StepRec). xs ++ h) (reverse-append (e ∷ []) es) ∙ append_assoc (reverse es) (e ∷ []) h
 
 pub same : (h : List StepRec) → IsLater h h
 same h = ([], refl)

@@ -1,5 +1,7 @@
 -- The journal of a script of one editor that was stopped: some phases are whole, and of the next a front was done.
 use Rattle.std.proofs.Common.{◌≡◌, ℕ, zero, suc, ◌<◌, ◌+◌, Bool, true, false, cond, List, [], ◌∷◌, ◌++◌, length, length-append, reverse, Option, Some, None, ◌⊎◌, inl, inr, is_some, arith, refl, ap, sym, subst, ◌∙◌}
+use Rattle.std.proofs.lemmas.Bool.{not-true}
+use Rattle.audit_model.proofs.DrainLaws.{turned}
 use Rattle.std.proofs.lemmas.List.{append-nil, nil_from_length, reverse-reverse}
 use Rattle.audit_model.specs.declared.commit.Edit.{Edit}
 use Rattle.audit_model.specs.declared.verdict.Pair.{Pair}
@@ -22,10 +24,10 @@ use Rattle.audit_model.specs.Serial.{Done, done, ended, with_room, given_to, wit
 use Rattle.audit_model.proofs.RunLegal.{serial_is_legal}
 use Rattle.serial_run.specs.Growth.{IsLater, returns, returned}
 use Rattle.serial_run.specs.Stopped.{held_number, StopsInRounds, StopsInLine, StopsFrom, StopsInDrain, back_of, AreStopped, StopIsPhased}
-use Rattle.serial_run.proofs.Growing.{turned, joined, lines_grow, sync_grows, phases_grow, rounds_grow}
+use Rattle.serial_run.proofs.Growing.{joined, lines_grow, sync_grows, phases_grow, rounds_grow}
 use Rattle.serial_run.proofs.Turning.{none_left}
 use Rattle.serial_run.proofs.Phasing.{lines_full, sync_full, sync_on, phases_full}
-use Rattle.serial_run.proofs.Following.{turned_both, legal_before, HeldIn, deliver_entry, delivery_is, turns_first, rounds_first, Goes, act_goes, none_yet, not_true, drafts, holds, own_first, line_is, order_on, AreFollowed, lines_follow, IsPhased, phase_on}
+use Rattle.serial_run.proofs.Following.{turned_both, legal_before, HeldIn, deliver_entry, delivery_is, turns_first, rounds_first, Goes, act_goes, none_yet, drafts, holds, own_first, line_is, order_on, AreFollowed, lines_follow, IsPhased, phase_on}
 
 -- Histories of which one goes on from the other.
 
@@ -271,7 +273,7 @@ act_cut g who Commit p h f may k since within = one_cut who Commit p h f (act_do
 act_cut g who Publish p h f may k since within = one_cut who Publish p h f (act_done g who Publish p h) k (act_goes g who Publish p h may k) since within (roomy_one g 1 h p _ (inr (_, refl, refl)))
 act_cut g who Take p h f may k since within = one_cut who Take p h f (act_done g who Take p h) k (act_goes g who Take p h may k) since within (roomy_one g 2 h p _ (inr (_, refl, refl)))
 act_cut g who Give p h f may k since within = one_cut who Give p h f (act_done g who Give p h) k (act_goes g who Give p h may k) since within (give_one g who p.held p h)
-act_cut g who (Work n) p h f may k since within = work_cut who n p h f (not_true (is_some p.held) may) (rounds_cut g who n p h f (none_yet who h p may k) since within)
+act_cut g who (Work n) p h f may k since within = work_cut who n p h f (not-true (is_some p.held) may) (rounds_cut g who n p h f (none_yet who h p may k) since within)
 
 -- f goes on from h by a front of these lines of editor 1, who was at the place p
 record CutLines (p : Place) (ls : List ScriptLine) (h f : List StepRec) : Type 0 where

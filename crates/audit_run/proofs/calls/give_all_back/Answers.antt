@@ -1,9 +1,10 @@
 use Rattle.std.proofs.Common.{◌∙◌, List, [], ◌∷◌, ap}
+use Rattle.audit_model.proofs.Tests.{Each-weaker}
 use Rattle.std.proofs.lemmas.List.{append-nil, append_assoc}
 use Rattle.audit_model.specs.declared.step.StepRec.{StepRec}
 use Rattle.audit_model.specs.declared.step.Call.TheVariants.{GiveBack}
 use Rattle.audit_model.specs.declared.step.Reply.TheVariants.{Back}
-use Rattle.audit_run.proofs.HoldLaws.{LeavesOut, Differs, all_taken, each_map, parted, return_leaves}
+use Rattle.audit_run.proofs.HoldLaws.{LeavesOut, Differs, all_taken, parted, return_leaves}
 use Rattle.audit_run.proofs.calls.give_all_back.Goals as goal
 
 pub give_back-requires : goal.give_back-requires
@@ -23,7 +24,7 @@ loop-taken-preserved c =
       legal = rw (c.give_back.ensures.ground, c.give_back.ensures.history) (c.give_back.ensures.lawful, c.loop-taken.invariant.legal);
       taken = rw (c.give_back.ensures.ground, c.give_back.ensures.history)
           (all_taken c.loop-taken.core.ground c.loop-taken.core.history e c.pop.new.self.items c.loop-taken.invariant.legal
-          (each_map (Differs c.in-Some.taken.claim.number) (LeavesOut c.loop-taken.core.history e) (λ t d. return_leaves c.loop-taken.core.history c.in-Some.taken.actor c.in-Some.taken.claim.number t d) c.pop.new.self.items q.differ) q.rest);
+          (Each-weaker (Differs c.in-Some.taken.claim.number) (LeavesOut c.loop-taken.core.history e) (λ t d. return_leaves c.loop-taken.core.history c.in-Some.taken.actor c.in-Some.taken.claim.number t d) c.pop.new.self.items q.differ) q.rest);
       returned = (
         c.in-Some.taken ∷ done,
         (

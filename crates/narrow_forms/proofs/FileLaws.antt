@@ -1,6 +1,7 @@
 -- Model files as the relation says them, and as they are read.
 use Rattle.std.proofs.Common.{◌≡◌, ℕ, ◌<◌, ◌≤◌, Bool, true, false, not, ◌||◌, cond, List, [], ◌∷◌, ◌++◌, length, Option, Some, None, Result, Ok, Err, ◌==◌, nat_lt, refl, ap, ◌∙◌, sym, subst, inl, inr, append_assoc, arith, length-append}
-use Rattle.std.proofs.lemmas.Bool.{and_from, and_parts, eqb-true, lt-ltb, ltb-true, or_from, or_parts}
+use Rattle.narrow_forms.proofs.ReadSteps.{done, done_is, bound, with_line_is}
+use Rattle.std.proofs.lemmas.Bool.{and_from, and_parts, eqb-true, lt-ltb, ltb-true, or_from, or_parts, not-true}
 use Rattle.std.specs.List.{list_any, list_all}
 use Rattle.std.specs.Char.{is_ascii_digit, is_ascii_uppercase, is_ascii_alphanumeric}
 use Rattle.std.specs.Str.{bytes_eq}
@@ -16,7 +17,7 @@ use Rattle.narrow_forms.specs.Answers.{Answers}
 use Rattle.narrow_forms.specs.Lines.{Lines, cut, with_byte, left, line}
 use Rattle.narrow_forms.specs.InstanceLine.{instance_of}
 use Rattle.audit_model.specs.Models.{HasDistinctIds}
-use Rattle.narrow_forms.specs.Model.{Read, ◌>>=◌, after, may_follow, admitted, instances, end_of_section, header, last_line, at_end, file, with_line, model_reading}
+use Rattle.narrow_forms.specs.Model.{Read, ◌>>=◌, after, may_follow, admitted, instances, end_of_section, header, last_line, at_end, file, model_reading}
 use Rattle.narrow_forms.specs.ModelFile.{IsParameter, AreParameters, IsInstanceLine, AreInstanceLines, ended, ModelFile}
 use Rattle.narrow_forms.proofs.Tools.{false_or_true, chosen, equal_text, same_text, not_back}
 use Rattle.narrow_forms.proofs.LineLaws.{line_text, line_sound, line_complete}
@@ -60,16 +61,12 @@ uncut_onto (x ∷ xs) = ap (λ (t : List ℕ). x ++ 10 ∷ t) (uncut_onto xs) �
 abbrev plain : ℕ → Bool
 plain b = not (b == 10)
 
-not_is : (b : Bool) → not b ≡ true → b ≡ false
-not_is true e = cc
-not_is false e = refl
-
 cut_line : (first bytes : List ℕ) → list_all plain first ≡ true → cut (first ++ 10 ∷ bytes) ≡ line first (cut bytes)
 unfolding cut
 cut_line [] bytes e = refl
 cut_line (b ∷ first) bytes e =
     let k = and_parts (plain b) (list_all plain first) e in
-    rw (not_is (b == 10) k.0) (ap (with_byte b) (cut_line first bytes k.1))
+    rw (not-true (b == 10) k.0) (ap (with_byte b) (cut_line first bytes k.1))
 
 cut_ended : (xs : List (List ℕ)) → list_all (list_all plain) xs ≡ true → cut (ended xs) ≡ onto xs (left [])
 unfolding cut ended onto
@@ -117,23 +114,13 @@ plain_lines (AreInstanceLines.more first x lines xs is each) = and_from (list_al
 
 -- ---- fixed lines
 
-abbrev done : {A : Type 0} → A → Read A
-done x = Ok x
-
-ok_is : {A : Type 0} (x y : A) → done x ≡ done y → x ≡ y
-ok_is x y e = cc
-
 kept : {A : Type 0} (b : Bool) (x : Read A) (at : Lines) (y : A) → cond b x (Err at) ≡ Ok y → (b ≡ true) × (x ≡ Ok y)
 kept true x at y e = (refl, e)
 kept false x at y e = absurd cc
 
-bound : {A B : Type 0} {read : Read A} {f : A → Read B} {y : B} → (read >>= f) ≡ Ok y → (x : A) × (read ≡ Ok x) × (f x ≡ Ok y)
-bound {read = Ok x} e = (x, refl, e)
-bound {read = Err at} e = absurd cc
-
 after_sound : (wanted : List (List ℕ)) (lines rest : Lines) → after wanted lines ≡ Ok rest → lines ≡ onto wanted rest
 unfolding after onto
-after_sound [] lines rest e = ok_is lines rest e
+after_sound [] lines rest e = done_is lines rest e
 after_sound (w ∷ wanted) (left bytes) rest e = absurd cc
 after_sound (w ∷ wanted) (line first lines) rest e =
     let k = kept (bytes_eq first w) (after wanted lines) (line first lines) rest e in
@@ -178,7 +165,7 @@ admitted_is : (most : ℕ) (before : List Instance) (at : Lines) (read : Option 
 admitted_is most before at None x e = absurd cc
 admitted_is most before at (Some y) x e =
     let k = kept (may_follow most before y) (Ok y) at x e in
-    let same : y ≡ x = ok_is y x k.1 in
+    let same : y ≡ x = done_is y x k.1 in
     (ap (λ (z : Instance). Some z) same, ap (may_follow most before) (sym same) ∙ k.0)
 
 end_here : (most : ℕ) (before : List Instance) (first : List ℕ) (lines : Lines) (read : List Instance × Lines) → HasDistinctIds before → length before ≤ most
@@ -218,14 +205,14 @@ instances_sound most (left rest) before read d le e = absurd cc
 instances_sound most (line first lines) before read d le e =
     elim (chosen (bytes_eq first end_of_section) (Ok (before, lines))
     (admitted most before (line first lines) (instance_of first) >>= λ x. instances most (before ++ x ∷ []) lines) (Ok read) e) [
-      | inl h ↦ end_here most before first lines read d le (equal_text first end_of_section h.0) (ok_is (before, lines) read h.1)
+      | inl h ↦ end_here most before first lines read d le (equal_text first end_of_section h.0) (done_is (before, lines) read h.1)
       | inr h ↦
           let k = bound h.1 in
           let a = admitted_is most before (line first lines) (instance_of first) k.0 k.1 in
           let b = and_parts (nat_lt (length before) most) (not (stands before k.0.id)) a.1 in
           one_more most before first lines k.0 read (line_sound first k.0 a.0) (
           instances_sound most lines (before ++ k.0 ∷ []) read
-          (distinct_more before k.0 d (not_is (stands before k.0.id) b.1))
+          (distinct_more before k.0 d (not-true (stands before k.0.id) b.1))
           (one_longer before k.0 most (ltb-true (length before) most b.0)) k.2)
     ]
 
@@ -247,7 +234,7 @@ instances_complete (AreInstanceLines.more first x own found is each) most before
 
 at_end_is : (xs ys : List Instance) (lines : Lines) → at_end xs lines ≡ Ok ys → (xs ≡ ys) × (lines ≡ left [])
 unfolding at_end
-at_end_is xs ys (left []) e = (ok_is xs ys e, refl)
+at_end_is xs ys (left []) e = (done_is xs ys e, refl)
 at_end_is xs ys (left (b ∷ rest)) e = absurd cc
 at_end_is xs ys (line first others) e = absurd cc
 
@@ -296,13 +283,9 @@ file_complete most bytes xs m =
     ap cut m.text ∙ cut_ended (header ++ m.lines ++ ends) all_plain ∙ onto_append (header ++ m.lines) ends (left []) ∙ onto_append header m.lines (onto ends (left [])) in
     rw (lines, after_complete header (onto m.lines (onto ends (left []))), instances_complete m.each most [] (line last_line (left [])) m.distinct m.few, after_complete (last_line ∷ []) (left [])) refl
 
-read_is : {A : Type 0} (bytes : List ℕ) (read : Read A) (x : A) → with_line bytes read ≡ Ok x → read ≡ Ok x
-read_is bytes (Ok y) x e = cc
-read_is bytes (Err at) x e = absurd cc
-
 pub model_sound : (most : ℕ) (bytes : List ℕ) (xs : List Instance) → model_reading most bytes ≡ Ok xs → ModelFile most bytes xs
 unfolding model_reading
-model_sound most bytes xs e = file_sound most bytes xs (read_is bytes (file most (cut bytes)) xs e)
+model_sound most bytes xs e = file_sound most bytes xs (with_line_is bytes (file most (cut bytes)) xs e)
 
 pub model_complete : (most : ℕ) (bytes : List ℕ) (xs : List Instance) → ModelFile most bytes xs → model_reading most bytes ≡ Ok xs
 unfolding model_reading

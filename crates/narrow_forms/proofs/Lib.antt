@@ -1,4 +1,5 @@
 pub mod Tools
+pub mod ReadSteps
 pub mod CutLemmas
 pub mod LineLemmas
 pub mod ModelLemmas

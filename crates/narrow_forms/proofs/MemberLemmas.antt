@@ -1,5 +1,6 @@
 -- Objects and lists, taken apart.
 use Rattle.std.proofs.Common.{◌≡◌, ℕ, ◌&&◌, Bool, true, false, List, [], ◌∷◌, length, get_or, map, Some, None, String, Global, Bor, string_bytes, ap, refl, arith}
+use Rattle.std.proofs.lemmas.Bool.{and_parts, and_right}
 use Rattle.std.specs.List.{zip, list_all}
 use Rattle.std.specs.Str.{bytes_eq}
 use Rattle.std.specs.Map.{keys_of}
@@ -22,16 +23,12 @@ keys_are-zip [] (n ∷ ns) h = absurd (omega arith)
 keys_are-zip (e ∷ es) [] h = absurd (omega arith)
 keys_are-zip (e ∷ es) (n ∷ ns) h = ap (λ b. bytes_eq (string_bytes e.0) n.now && b) (keys_are-zip es ns (omega arith))
 
-no_keys-and : (b c : Bool) → c ≡ false → (b && c) ≡ false
-no_keys-and true c h = h
-no_keys-and false c h = refl
-
 pub keys_are-length : (es : List Entry) (ns : List (Bor (List ℕ))) → (length es ≡ length ns → ⊥)
     → keys_are (map (λ n. n.now) ns) (members_view es) ≡ false
 keys_are-length [] [] h = absurd (h refl)
 keys_are-length [] (n ∷ ns) h = refl
 keys_are-length (e ∷ es) [] h = refl
-keys_are-length (e ∷ es) (n ∷ ns) h = no_keys-and _ _ (keys_are-length es ns (λ s. h (omega arith)))
+keys_are-length (e ∷ es) (n ∷ ns) h = and_right _ _ (keys_are-length es ns (λ s. h (omega arith)))
 
 pub object_is : (d : Data) (ms : Members) → Some ms ≡ as_object d → d ≡ object ms
 object_is null ms h = cc
@@ -106,20 +103,12 @@ object_from_keys ns (string s) h = cc
 object_from_keys ns (array ds) h = cc
 object_from_keys ns (object ms) h = (ms, refl, h)
 
-both-left : (b c : Bool) → (b && c) ≡ true → b ≡ true
-both-left true c h = refl
-both-left false c h = cc
-
-both-right : (b c : Bool) → (b && c) ≡ true → c ≡ true
-both-right true c h = h
-both-right false c h = cc
-
 pub first_member : (n : List ℕ) (ns : List (List ℕ)) (ms : Members) → keys_are (n ∷ ns) ms ≡ true
     → (d : Data) × (rest : Members) × (ms ≡ member n d rest) × (keys_are ns rest ≡ true)
 first_member n ns no_members h = cc
 first_member n ns (member k d ms) h =
-    let same : k ≡ n = (bytes_eq-Decides k n).0 (both-left _ _ h) in
-    (d, ms, ap (λ l. member l d ms) same, both-right _ _ h)
+    let same : k ≡ n = (bytes_eq-Decides k n).0 (and_parts _ _ h).0 in
+    (d, ms, ap (λ l. member l d ms) same, (and_parts _ _ h).1)
 
 pub no_member : (ms : Members) → keys_are [] ms ≡ true → ms ≡ no_members
 no_member no_members h = refl

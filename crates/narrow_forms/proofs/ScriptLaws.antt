@@ -1,5 +1,7 @@
 -- The lines of a script that is read stand in the order in which they may come.
 use Rattle.std.proofs.Common.{◌≡◌, ℕ, Bool, true, false, not, ◌||◌, cond, List, [], ◌∷◌, ◌++◌, length, Option, Some, None, Result, Ok, Err, ◌==◌, option_map, refl, ap, ◌∙◌, sym}
+use Rattle.narrow_forms.proofs.ReadSteps.{done_is, bound, with_line_is}
+use Rattle.narrow_forms.proofs.Tools.{kept, passed}
 use Rattle.std.proofs.lemmas.Bool.{or_parts}
 use Rattle.std.specs.Prelude.{IfOk, option_and_then}
 use Rattle.ifc_base.specs.declared.memory.Refusal.{Refusal}
@@ -13,7 +15,7 @@ use Rattle.narrow_forms.specs.declared.script_line.Meaning.{Meaning}
 use Rattle.narrow_forms.specs.declared.script_line.Meaning.TheVariants.{Nothing, Does, Ends}
 use Rattle.narrow_forms.specs.Answers.{Answers}
 use Rattle.narrow_forms.specs.Lines.{Lines, cut, left, line}
-use Rattle.narrow_forms.specs.Model.{Read, ◌>>=◌, with_line}
+use Rattle.narrow_forms.specs.Model.{Read}
 use Rattle.narrow_forms.specs.ScriptLine.{line_meaning, without_return}
 use Rattle.narrow_forms.specs.Script.{fresh, edits_after, with_act, act_step, with_phase, end_step, line_step, after_line, read_at, script_lines, finished, script, script_reading}
 
@@ -24,20 +26,6 @@ some x = Some x
 
 same_some : {A : Type 0} (x y : A) → some x ≡ some y → x ≡ y
 same_some x y e = cc
-
-abbrev ok : {A : Type 0} → A → Read A
-ok x = Ok x
-
-same_ok : {A : Type 0} (x y : A) → ok x ≡ ok y → x ≡ y
-same_ok x y e = cc
-
-kept : {A : Type 0} (b : Bool) (x : Option A) (y : A) → cond b x None ≡ Some y → (b ≡ true) × (x ≡ Some y)
-kept true x y e = (refl, e)
-kept false x y e = absurd cc
-
-passed : {A : Type 0} (b : Bool) (x : Option A) (y : A) → cond b None x ≡ Some y → (b ≡ false) × (x ≡ Some y)
-passed true x y e = absurd cc
-passed false x y e = (refl, e)
 
 let_through : {A : Type 0} (b : Bool) (at : Lines) (x : Read A) (y : A) → cond b (Err at) x ≡ Ok y → (b ≡ false) × (x ≡ Ok y)
 let_through true at x y e = absurd cc
@@ -53,11 +41,7 @@ chained f (Some x) y e = (x, e)
 
 read_is : {A : Type 0} (at : Lines) (o : Option A) (y : A) → read_at at o ≡ Ok y → o ≡ Some y
 read_is at None y e = absurd cc
-read_is at (Some x) y e = ap some (same_ok x y e)
-
-bound : {A B : Type 0} {read : Read A} {f : A → Read B} {y : B} → (read >>= f) ≡ Ok y → (x : A) × (read ≡ Ok x) × (f x ≡ Ok y)
-bound {read = Ok x} e = (x, refl, e)
-bound {read = Err at} e = absurd cc
+read_is at (Some x) y e = ap some (done_is x y e)
 
 -- ---- lines that may come
 
@@ -136,7 +120,7 @@ finished_is : (w : Writing) (phases : List Phase) → finished w ≡ Ok phases �
 unfolding finished
 finished_is w phases e =
     let k = let_through (not (length w.lines == 0) || length w.phases == 0) (left []) (Ok w.phases) phases e in
-    same_ok w.phases phases k.1
+    done_is w.phases phases k.1
 
 script_is : (lines : Lines) (phases : List Phase) → script lines ≡ Ok phases → AreOrderly 1 phases
 unfolding script
@@ -144,10 +128,6 @@ script_is lines phases e =
     let k = bound e in
     let is = lines_are lines fresh k.0 k.1 fresh_is in
     rw (← finished_is k.0 phases k.2) is.phases
-
-with_line_is : {A : Type 0} (bytes : List ℕ) (read : Read A) (x : A) → with_line bytes read ≡ Ok x → read ≡ Ok x
-with_line_is bytes (Ok y) x e = cc
-with_line_is bytes (Err at) x e = absurd cc
 
 -- what a call that answers as its bytes are read has found
 pub are_orderly : (bytes : List ℕ) (result : Result (List Phase) (Refusal LineFault)) → Answers (script_reading bytes) result → IfOk result (λ phases. AreOrderly 1 phases)

@@ -20,4 +20,4 @@ unfolding below
 below_some zero lt = absurd (omega arith)
 below_some (suc d) lt = let e : d ≡ suc d - 1 = omega arith in ap (λ n. Some (value n)) e
 
-pub ruleset value_laws = (value_is, below_none, below_some, each_laws)
+pub ruleset steps = (value_is, below_none, below_some, each_laws)

@@ -1,5 +1,6 @@
 -- Whole files: what is read is spelled so, and what is spelled so is read.
 use Rattle.std.proofs.Common.{◌≡◌, ℕ, ◌<◌, ◌≤◌, Bool, true, false, cond, eqb, List, [], ◌∷◌, ◌++◌, length, Result, Ok, Err, refl, sym, ap, ◌∙◌, subst, append_assoc, length-append, arith}
+use Rattle.std.proofs.lemmas.Bool.{or_parts}
 use Rattle.std.specs.Prelude.{IfOk, ◌||◌, nat_le}
 use Rattle.std.proofs.lemmas.List.{append-nil}
 use Rattle.std.proofs.lemmas.List.Folds.{list_any-append}
@@ -39,10 +40,6 @@ pub record Fits (most : ℕ) (xs : List Instance) : Type 0 where
   pub distinct : HaveDistinctIds xs
   pub few : length xs ≤ most
 
-or_false : (a b : Bool) → (a || b) ≡ false → (a ≡ false) × (b ≡ false)
-or_false true b e = absurd cc
-or_false false b e = (refl, e)
-
 both_false : (a b : Bool) → a ≡ false → b ≡ false → (a || b) ≡ false
 both_false a b p q = rw (p, q) refl
 
@@ -55,15 +52,15 @@ is_of n x = eqb n x.id
 distinct_one : (s : List Instance) (x : Instance) → HaveDistinctIds s → has_id x.id s ≡ false → HaveDistinctIds (s ++ x ∷ [])
 distinct_one [] x d new = (refl, tt)
 distinct_one (y ∷ s) x d new =
-    let n = or_false (eqb x.id y.id) (has_id x.id s) new in
+    let n = or_parts (eqb x.id y.id) (has_id x.id s) new in
     let last : has_id y.id (x ∷ []) ≡ false = both_false (eqb y.id x.id) false (other_way x.id y.id n.0) refl in
     (list_any-append (is_of y.id) s (x ∷ []) ∙ both_false (has_id y.id s) (has_id y.id (x ∷ [])) d.0 last, distinct_one s x d.1 n.1)
 
 new_one : (s : List Instance) (x : Instance) (xs : List Instance) → HaveDistinctIds (s ++ x ∷ xs) → has_id x.id s ≡ false
 new_one [] x xs d = refl
 new_one (y ∷ s) x xs d =
-    let n = or_false (has_id y.id s) (has_id y.id (x ∷ xs)) (sym (list_any-append (is_of y.id) s (x ∷ xs)) ∙ d.0) in
-    let first = or_false (eqb y.id x.id) (has_id y.id xs) n.1 in
+    let n = or_parts (has_id y.id s) (has_id y.id (x ∷ xs)) (sym (list_any-append (is_of y.id) s (x ∷ xs)) ∙ d.0) in
+    let first = or_parts (eqb y.id x.id) (has_id y.id xs) n.1 in
     both_false (eqb x.id y.id) (has_id x.id s) (other_way y.id x.id first.0) (new_one s x xs d.1)
 
 fits_one : (most : ℕ) (s : List Instance) (x : Instance) → Fits most s → has_id x.id s ≡ false → length s < most → Fits most (s ++ x ∷ [])
@@ -312,7 +309,7 @@ first_word_is most other at m x e = absurd cc
 -- fewer instances, those at the front of others
 front_distinct : (s xs : Listed) → HaveDistinctIds (s ++ xs) → HaveDistinctIds s
 front_distinct [] xs d = tt
-front_distinct (y ∷ s) xs d = let n = or_false (has_id y.id s) (has_id y.id xs) (sym (list_any-append (is_of y.id) s xs) ∙ d.0) in (n.0, front_distinct s xs d.1)
+front_distinct (y ∷ s) xs d = let n = or_parts (has_id y.id s) (has_id y.id xs) (sym (list_any-append (is_of y.id) s xs) ∙ d.0) in (n.0, front_distinct s xs d.1)
 
 front_fits : (most : ℕ) (s xs : Listed) → Fits most (s ++ xs) → Fits most s
 front_fits most s xs f = let few = f.few in record { distinct = front_distinct s xs f.distinct; few = omega (arith, length-append s xs, few) }

@@ -1,7 +1,6 @@
 -- Blanks and comments: what is passed is what the grammar has, and no more.
 use Rattle.std.proofs.Common.{◌≡◌, ℕ, ◌<◌, ◌≤◌, Bool, true, false, eqb, [], ◌∷◌, length, Ok, refl, sym, subst, ap, inl, inr, arith}
-use Rattle.std.specs.Prelude.{◌||◌}
-use Rattle.std.proofs.lemmas.Bool.{eqb-true}
+use Rattle.std.proofs.lemmas.Bool.{eqb-true, or_parts}
 use Rattle.std.proofs.lemmas.Bool.Decides.{nat_tests}
 use Rattle.reading.specs.Reading.{Text, Refused, Shortens, turns}
 use Rattle.reading.specs.Runs.{begins}
@@ -13,10 +12,6 @@ use Rattle.p21_read.specs.TokenGrammar.{closes, Comment, is_gap, Gap}
 
 abbrev Done : Type 0
 Done = Unit {0} × Text
-
-or_false : (a b : Bool) → (a || b) ≡ false → (a ≡ false) × (b ≡ false)
-or_false true b e = absurd cc
-or_false false b e = (refl, e)
 
 -- ---- comments
 
@@ -138,7 +133,7 @@ blank_other c is = grind (arith, nat_tests)
 none_runs : (t : Text) → begins is_gap t ≡ false → gap_turn tt t ≡ Ok ((false, tt), t)
 unfolding gap_turn
 none_runs [] e = refl
-none_runs (c ∷ t) e = let b = or_false (eqb c 47) (is_blank c) e in rw (b.0, b.1) refl
+none_runs (c ∷ t) e = let b = or_parts (eqb c 47) (is_blank c) e in rw (b.0, b.1) refl
 
 gap_runs : {t u : Text} → Gap t u → Run gap_turn tt t tt u
 unfolding gap_turn slash

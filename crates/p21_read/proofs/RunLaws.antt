@@ -1,5 +1,7 @@
 -- Runs of digits and of the letters of words.
 use Rattle.std.proofs.Common.{◌≡◌, ℕ, zero, suc, ◌+◌, ◌*◌, ◌-◌, ◌^◌, ◌<◌, ◌≤◌, min, Bool, true, false, List, [], ◌∷◌, ◌++◌, length, map, refl, sym, ap, ◌∙◌, subst, inl, inr, append_assoc, arith}
+use Rattle.std.proofs.Math.Bool.{and-true}
+use Rattle.std.proofs.lemmas.Bool.{and_parts}
 use Rattle.std.specs.Prelude.{fold, not, ◌&&◌, ◌==◌}
 use Rattle.std.specs.List.{list_all}
 use Rattle.std.specs.Char.{is_ascii_digit, is_ascii_lowercase, to_ascii_uppercase}
@@ -15,17 +17,9 @@ use Rattle.p21_read.specs.Numbers.{with_digit, digits, no_digits, is_numeral}
 use Rattle.p21_read.specs.Words.{gather, with_letter, no_word, is_word, word}
 use Rattle.p21_read.specs.TokenGrammar.{number_of, word_of}
 
-pub and_true : (a b : Bool) → (a && b) ≡ true → (a ≡ true) × (b ≡ true)
-and_true true b e = (refl, e)
-and_true false b e = absurd cc
-
 and_assoc : (a b c : Bool) → ((a && b) && c) ≡ (a && (b && c))
 and_assoc true b c = refl
 and_assoc false b c = refl
-
-and_right : (a : Bool) → (a && true) ≡ a
-and_right true = refl
-and_right false = refl
 
 -- ---- what is gathered
 
@@ -53,10 +47,6 @@ gather_run class kept (c ∷ t) s =
 pub gathered : {class : ℕ → Bool} {t xs u : Text} (kept : ℕ → ℕ) (s : List ℕ) → IsRun class t xs u → gather class kept s t ≡ (s ++ map kept xs, u)
 gathered {class = class} {t = t} kept s r = gather_run class kept t s ∙ ap (λ (p : Text × Text). (s ++ map kept p.0, p.1)) (run_only r)
 
-pub map_same : (xs : List ℕ) → map (λ c. c) xs ≡ xs
-map_same [] = refl
-map_same (x ∷ xs) = ap (λ (r : List ℕ). x ∷ r) (map_same xs)
-
 -- ---- words
 
 abbrev big : ℕ → Bool
@@ -69,7 +59,7 @@ abbrev word_with : Word → List ℕ → Word
 word_with w xs = record { name = w.name ++ map to_ascii_uppercase xs; capitals = w.capitals && list_all big xs; plain = w.plain && list_all joint xs }
 
 letters_are : (xs : List ℕ) (w : Word) → fold with_letter w xs ≡ word_with w xs
-letters_are [] w = rw (append-nil w.name, and_right w.capitals, and_right w.plain) refl
+letters_are [] w = rw (append-nil w.name, and-true w.capitals, and-true w.plain) refl
 letters_are (x ∷ xs) w =
     letters_are xs (with_letter w x)
     ∙ rw (append_assoc w.name (to_ascii_uppercase x ∷ []) (map to_ascii_uppercase xs), and_assoc w.capitals (big x) (list_all big xs), and_assoc w.plain (joint x) (list_all joint xs)) refl
@@ -126,7 +116,7 @@ digit_below x is = grind (arith, nat_tests)
 digits_bound : (xs : List ℕ) (n v : ℕ) → list_all is_ascii_digit xs ≡ true → v < tens n → fold (λ m c. 10 * m + (c - 48)) v xs < tens (n + length xs)
 digits_bound [] n v all lt = let same : n + 0 ≡ n = omega arith in rw same lt
 digits_bound (x ∷ xs) n v all lt =
-    let k = and_true (is_ascii_digit x) (list_all is_ascii_digit xs) all in
+    let k = and_parts (is_ascii_digit x) (list_all is_ascii_digit xs) all in
     let small = digit_below x k.0 in
     let next : 10 * v + (x - 48) < tens (suc n) = omega (arith, small, lt) in
     let same : suc n + length xs ≡ n + suc (length xs) = omega arith in
@@ -140,7 +130,7 @@ number_below xs all le =
 
 -- ---- numerals
 
-digit_numeral : (c : ℕ) → is_ascii_digit c ≡ true → is_numeral c ≡ true
+pub digit_numeral : (c : ℕ) → is_ascii_digit c ≡ true → is_numeral c ≡ true
 digit_numeral c is = rw is refl
 
 -- the characters of a numeral are all digits where nothing of it follows the digits

@@ -1,9 +1,10 @@
 -- Tokens: what is read is spelled so, and what is spelled so is read.
 use Rattle.std.proofs.Common.{◌≡◌, ℕ, ◌<◌, ◌≤◌, min, Bool, true, false, eqb, ltb, List, [], ◌∷◌, Option, Some, None, length, map, Ok, refl, sym, ap, ◌∙◌, subst, inl, inr, arith}
+use Rattle.std.proofs.lemmas.List.{map-id}
 use Rattle.std.specs.Prelude.{◌||◌, ◌&&◌, not, fold}
 use Rattle.std.specs.List.{list_all}
 use Rattle.std.specs.Char.{is_ascii_digit, is_ascii_hexdigit, to_ascii_uppercase}
-use Rattle.std.proofs.lemmas.Bool.{eqb-true, ltb-false, eqb-false}
+use Rattle.std.proofs.lemmas.Bool.{eqb-true, ltb-false, eqb-false, and_parts, and_right, not-false, or_parts}
 use Rattle.std.proofs.lemmas.Bool.Decides.{nat_tests}
 use Rattle.ifc_base.specs.declared.value.Decimal.{Decimal}
 use Rattle.decimal_fix.specs.Reading.{reading}
@@ -28,11 +29,7 @@ use Rattle.p21_read.specs.Tokens.{Lexed, as_number, as_word, pointed, word_or_nu
 use Rattle.p21_read.specs.TokenGrammar.{Sign, begins_number, is_integer, number_of, IsNumber, word_of, IsToken, Next}
 use Rattle.p21_read.proofs.GapLaws.{gap_sound, gap_complete, gap_shorter}
 use Rattle.p21_read.proofs.StringLaws.{text_sound, text_complete, quoted_shorter}
-use Rattle.p21_read.proofs.RunLaws.{and_true, digits_run, digits_are, gather_run, gathered, map_same, word_gives, word_is, AreRead, are_read, number_below, all_digits}
-
-or_false : (a b : Bool) → (a || b) ≡ false → (a ≡ false) × (b ≡ false)
-or_false true b e = absurd cc
-or_false false b e = (refl, e)
+use Rattle.p21_read.proofs.RunLaws.{digits_run, digits_are, gather_run, gathered, word_gives, word_is, AreRead, are_read, number_below, all_digits, digit_numeral}
 
 -- ---- integers
 
@@ -45,7 +42,7 @@ int_is : (at xs u : Text) (negative : Bool) (d : Digits) (x : Numbered) → AreR
 unfolding int
 int_is at xs u negative d x are all e =
     let p = passed (eqb d.count 0 || ltb 18 d.count) (Ok (Int (signed negative d.value), u)) BadToken at x e in
-    let b = or_false (eqb d.count 0) (ltb 18 d.count) p.0 in
+    let b = or_parts (eqb d.count 0) (ltb 18 d.count) p.0 in
     let some : 0 < length xs = omega (arith, are.count, eqb-false d.count 0 b.0) in
     let few : length xs ≤ 18 = omega (arith, are.count, ltb-false 18 d.count b.1) in
     let same : number_of xs ≡ d.value = omega (arith, are.value, number_below xs all few) in
@@ -68,7 +65,7 @@ real_of_is at (Some d) u x e = (d, refl, ok_is {E = Refused P21Cause} (Real d, u
 
 -- what is gathered of a numeral is its run
 numeral_is : (t : Text) → gather is_numeral (λ c. c) [] t ≡ ((run is_numeral t).0, (run is_numeral t).1)
-numeral_is t = gather_run is_numeral (λ c. c) t [] ∙ ap (λ (r : List ℕ). (r, (run is_numeral t).1)) (map_same (run is_numeral t).0)
+numeral_is t = gather_run is_numeral (λ c. c) t [] ∙ ap (λ (r : List ℕ). (r, (run is_numeral t).1)) (map-id (run is_numeral t).0)
 
 real_by : (at : Text) → real at ≡ real_of at (reading (run is_numeral at).0) (run is_numeral at).1
 unfolding real
@@ -90,14 +87,10 @@ first_of : (c : ℕ) (t : Text) → is_numeral c ≡ true → (run is_numeral (c
 unfolding run
 first_of c t is = rw is refl
 
-and_false : (a b : Bool) → b ≡ false → (a && b) ≡ false
-and_false true b e = e
-and_false false b e = refl
-
 goes_on : (c : ℕ) (t : Text) → is_numeral c ≡ true → begins is_numeral (run is_ascii_digit t).1 ≡ true → is_integer (run is_numeral (c ∷ t)).0 ≡ false
 goes_on c t is more =
     let none : list_all is_ascii_digit (run is_numeral t).0 ≡ false = all_digits t ∙ ap not more in
-    ap is_integer (first_of c t is) ∙ and_false (eqb c 43 || eqb c 45 || is_ascii_digit c) (list_all is_ascii_digit (run is_numeral t).0) none
+    ap is_integer (first_of c t is) ∙ and_right (eqb c 43 || eqb c 45 || is_ascii_digit c) (list_all is_ascii_digit (run is_numeral t).0) none
 
 number_sound : (c : ℕ) (t v : Text) (negative : Bool) (d : Digits) (ds : Text) (x : Numbered) → is_numeral c ≡ true → begins_number (c ∷ t) ≡ true → Sign (c ∷ t) negative v
     → IsRun is_ascii_digit v ds (run is_ascii_digit t).1 → AreRead ds d → number (c ∷ t) negative (d, (run is_ascii_digit t).1) ≡ Ok x → IsNumber (c ∷ t) x.0 x.1
@@ -143,9 +136,6 @@ digit_begins c t is =
         | inr l ↦ rw (h, l, is) refl
       ]
     ]
-
-digit_numeral : (c : ℕ) → is_ascii_digit c ≡ true → is_numeral c ≡ true
-digit_numeral c is = rw is refl
 
 digit_run : (c : ℕ) (t : Text) → is_ascii_digit c ≡ true → IsRun is_ascii_digit (c ∷ t) (c ∷ (run is_ascii_digit t).0) (run is_ascii_digit t).1
 digit_run c t is =
@@ -194,7 +184,7 @@ binary_end_is at s (c ∷ t) x e =
     (ap (λ (n : ℕ). n ∷ t) (eqb-true c 34 h.0) ∙ ap (λ (y : Named). 34 ∷ y.1) same, ap (λ (y : Named). y.0) same)
 
 hex_gathered : (c : ℕ) (t : Text) → gather is_ascii_hexdigit (λ d. d) (c ∷ []) t ≡ (c ∷ (run is_ascii_hexdigit t).0, (run is_ascii_hexdigit t).1)
-hex_gathered c t = gather_run is_ascii_hexdigit (λ d. d) t (c ∷ []) ∙ ap (λ (r : List ℕ). (c ∷ r, (run is_ascii_hexdigit t).1)) (map_same (run is_ascii_hexdigit t).0)
+hex_gathered c t = gather_run is_ascii_hexdigit (λ d. d) t (c ∷ []) ∙ ap (λ (r : List ℕ). (c ∷ r, (run is_ascii_hexdigit t).1)) (map-id (run is_ascii_hexdigit t).0)
 
 binary_sound : (t : Text) (x : Named) → binary (34 ∷ t) t ≡ Ok x → IsToken (34 ∷ t) (k.Binary x.0) x.1
 unfolding binary
@@ -422,17 +412,13 @@ integer_complete {ds = ds} {u = u} negative (Sign.minus t) r ends some few =
     ap (λ (n : Read P21Cause Number). n >>= as_number) read
 
 -- a numeral that isn't digits alone goes on behind its digits
-not_false : (b : Bool) → not b ≡ false → b ≡ true
-not_false true e = refl
-not_false false e = absurd cc
-
 more_behind : (c : ℕ) (t xs u : Text) → is_numeral c ≡ true → (eqb c 43 || eqb c 45 || is_ascii_digit c) ≡ true → IsRun is_numeral (c ∷ t) xs u → is_integer xs ≡ false
     → begins is_numeral (run is_ascii_digit t).1 ≡ true
 more_behind c t xs u is first r other =
     let same : c ∷ (run is_numeral t).0 ≡ xs = sym (first_of c t is) ∙ ap (λ (p : Text × Text). p.0) (run_only r) in
     let none : ((eqb c 43 || eqb c 45 || is_ascii_digit c) && list_all is_ascii_digit (run is_numeral t).0) ≡ false = ap is_integer same ∙ other in
     let digits_none : list_all is_ascii_digit (run is_numeral t).0 ≡ false = rw first at none in
-    not_false (begins is_numeral (run is_ascii_digit t).1) (sym (all_digits t) ∙ digits_none)
+    not-false (begins is_numeral (run is_ascii_digit t).1) (sym (all_digits t) ∙ digits_none)
 
 real_number : (at t xs u : Text) (negative : Bool) (d : Digits) (x : Decimal) → begins is_numeral (run is_ascii_digit t).1 ≡ true → IsRun is_numeral at xs u → reading xs ≡ Some x
     → (number at negative (digits d t) >>= as_number) ≡ Ok (k.Number (Real x), u)
@@ -460,7 +446,7 @@ minus_real c t xs u d is r other reads =
 point_real : (c : ℕ) (t xs u : Text) (d : Decimal) → (eqb c 46 && begins is_ascii_digit t) ≡ true → IsRun is_numeral (c ∷ t) xs u → reading xs ≡ Some d → token_of (c ∷ t) c t ≡ Ok (k.Number (Real d), u)
 unfolding token_of pointed
 point_real c t xs u d is r reads =
-    let b = and_true (eqb c 46) (begins is_ascii_digit t) is in
+    let b = and_parts (eqb c 46) (begins is_ascii_digit t) is in
     let same = eqb-true c 46 b.0 in
     let here : IsRun is_numeral (46 ∷ t) xs u = subst (λ (n : ℕ). IsRun is_numeral (n ∷ t) xs u) same r in
     let read : token_of (46 ∷ t) 46 t ≡ Ok (k.Number (Real d), u) = rw (b.1, real_reads (46 ∷ t) xs u d here reads) refl in
@@ -490,7 +476,7 @@ number_complete (IsNumber.real t xs u d begin r other reads) = real_complete t x
 binary_reads : (c : ℕ) (t ds u : Text) → is_surplus c ≡ true → IsRun is_ascii_hexdigit t ds (34 ∷ u) → binary (34 ∷ c ∷ t) (c ∷ t) ≡ Ok (c ∷ ds, u)
 unfolding binary binary_end
 binary_reads c t ds u is r =
-    let g = gathered (λ d. d) (c ∷ []) r ∙ ap (λ (x : List ℕ). (c ∷ x, 34 ∷ u)) (map_same ds) in
+    let g = gathered (λ d. d) (c ∷ []) r ∙ ap (λ (x : List ℕ). (c ∷ x, 34 ∷ u)) (map-id ds) in
     rw is (ap (binary_end (34 ∷ c ∷ t)) g)
 
 enumer_reads : (c : ℕ) (t cs u : Text) → is_letter c ≡ true → IsRun is_name t cs (46 ∷ u) → enumer (46 ∷ c ∷ t) (c ∷ t) ≡ Ok (map to_ascii_uppercase (c ∷ cs), u)

@@ -28,9 +28,10 @@ pub fn one_file()
     ensures { (most : ℕ) (bytes : List ℕ) (x y : P21File) → ReadsFile most bytes x → ReadsFile most bytes y → x ≡ y }
 {}
 
-/// Each turn of a loop of reading that goes on leaves less: of blanks and comments, of groups of hexadecimal digits, of the pieces of a string,
-/// of values in parentheses, of header entities, of instances, of data sections. So turns never run out (`reading::turns_never_run_out`):
-/// no fault comes from the bound of a loop.
+/// Each turn of a loop of reading that goes on leaves less: of blanks and comments, of groups of
+/// hexadecimal digits, of the pieces of a string, of values in parentheses, of header entities, of
+/// instances, of data sections. So turns never run out (`reading::turns_never_run_out`): no fault comes
+/// from the bound of a loop.
 pub fn turns_shorten()
     ensures gap { Shortens gap_turn }
     ensures groups { (is_long : Bool) (q : List ℕ) → Shortens (groups_turn is_long q) }

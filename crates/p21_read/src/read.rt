@@ -32,8 +32,8 @@ pub fn read_value(alloc: Global, bytes: &[u8]) -> Result<Value, Refusal<P21Fault
     answer(bytes, whole_value(alloc, bytes))
 }
 
-/// Reads one instance, `#n=KEYWORD(parameters);` (a simple entity instance of ISO 10303-21), with nothing around it but blanks and
-/// comments.
+/// Reads one instance, `#n=KEYWORD(parameters);` (a simple entity instance of ISO 10303-21), with nothing
+/// around it but blanks and comments.
 ///
 /// What stands behind it is BadToken, where it has no cause of its own; IdRange, of the number or the first reference out of
 /// range, comes after that. The instance, or the first fault with its line; or want of memory, which says nothing of the bytes.

@@ -104,7 +104,7 @@ fn number_node(number: Number) -> ValueNode
 }
 
 /// The value that begins with the token, in which parentheses nest no deeper than `depth`.
-#[tactic(auto, using(crate::proofs::Depths::value_laws), unfolding(crate::specs::Values::series, crate::specs::Values::series_turn, crate::specs::Values::typed))]
+#[tactic(auto, using(crate::proofs::Depths::steps))]
 #[cycle(read)]
 pub(crate) fn value<'a>(
     alloc: Global,
@@ -146,7 +146,7 @@ pub(crate) fn value<'a>(
 }
 
 /// The values behind the parenthesis at `at`, up to the closing parenthesis.
-#[tactic(auto, using(crate::proofs::Depths::value_laws), unfolding(crate::specs::Values::series, crate::specs::Values::series_turn, crate::specs::Values::typed))]
+#[tactic(auto, using(crate::proofs::Depths::steps), unfolding(crate::specs::Values::series, crate::specs::Values::series_turn))]
 #[cycle(read)]
 pub(crate) fn read_series<'a>(
     alloc: Global,
@@ -180,7 +180,7 @@ pub(crate) fn read_series<'a>(
 }
 
 /// The typed parameter whose keyword is the word at `here`.
-#[tactic(auto, using(crate::proofs::Depths::value_laws), unfolding(crate::specs::Values::series, crate::specs::Values::series_turn, crate::specs::Values::typed))]
+#[tactic(auto, using(crate::proofs::Depths::steps))]
 #[cycle(read)]
 fn typed<'a>(
     alloc: Global,
@@ -208,7 +208,7 @@ fn typed<'a>(
 }
 
 /// The value behind the keyword's parenthesis at `at`, and the closing parenthesis.
-#[tactic(auto, using(crate::proofs::Depths::value_laws), unfolding(crate::specs::Values::series, crate::specs::Values::series_turn, crate::specs::Values::typed))]
+#[tactic(auto, using(crate::proofs::Depths::steps), unfolding(crate::specs::Values::typed))]
 #[cycle(read)]
 fn inside<'a>(
     alloc: Global,

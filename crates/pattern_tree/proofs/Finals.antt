@@ -1,8 +1,8 @@
 -- What `final` and the wires of a pass say.
 use Rattle.std.proofs.Common.{◌≡◌, ℕ, Bool, true, false, ◌&&◌, ◌||◌, refl, sym, ap, ◌∙◌}
+use Rattle.std.proofs.Math.Bool.{or-false, and-false}
 use Rattle.pattern_tree.specs.declared.machine.Wire.{Wire}
 use Rattle.pattern_tree.specs.Machine.{wire}
-use Rattle.pattern_tree.proofs.Booleans.{or_false}
 use Rattle.pattern_tree.proofs.Expressions.{Expr, one, blank, both, never, either, loop, takes_empty, Fine, Marks, final, Good, pass, unmarked}
 
 absorbed : (y f e : Bool) → (y || f) ≡ ((y || f) || (e && f))
@@ -14,7 +14,7 @@ absorbed false false false = refl
 both_on : (g : Bool → Bool) (a e f : Bool) → g true ≡ (g false || f) → g (a || e) ≡ (g a || (e && f))
 both_on g true e f h = h ∙ absorbed (g false) f e ∙ ap (λ y. y || (e && f)) (sym h)
 both_on g false true f h = h
-both_on g false false f h = sym (or_false (g false))
+both_on g false false f h = sym (or-false (g false))
 
 regroup : (a e b f : Bool) → ((a || e) || (b || f)) ≡ ((a || b) || (e || f))
 regroup true e b f = refl
@@ -29,7 +29,7 @@ loop_on false false = refl
 
 -- a wire that is on reaches the end through the empty text
 pub final_on : (e : Expr) (m : Marks e) → final e m true ≡ (final e m false || takes_empty e)
-final_on (one k) m = sym (or_false m)
+final_on (one k) m = sym (or-false m)
 final_on blank m = refl
 final_on (both p q) m =
     ap (final q m.1) (final_on p m.0) ∙ both_on (final q m.1) (final p m.0 false) (takes_empty p) (takes_empty q) (final_on q m.1)
@@ -92,10 +92,6 @@ pass_good hit (either p q) m w good = (pass_good hit p m.0 w good.0, pass_good h
 pass_good hit (loop b p) m w good =
     let v = wire (w.now || m.0) false in (pass_next hit p m.1 v, pass_good hit p m.1 v good.1)
 
-and_false : (b : Bool) → (b && false) ≡ false
-and_false true = refl
-and_false false = refl
-
 -- without marks no end is reached
 pub final_unmarked : (e : Expr) → final e (unmarked e) false ≡ false
 final_unmarked (one k) = refl
@@ -104,7 +100,7 @@ final_unmarked (both p q) = ap (final q (unmarked q)) (final_unmarked p) ∙ fin
 final_unmarked never = refl
 final_unmarked (either p q) =
     ap (λ y. y || final q (unmarked q) false) (final_unmarked p) ∙ final_unmarked q
-final_unmarked (loop b p) = ap (λ y. y || (b && false)) (final_unmarked p) ∙ and_false b
+final_unmarked (loop b p) = ap (λ y. y || (b && false)) (final_unmarked p) ∙ and-false b
 
 pub good_unmarked : (e : Expr) → Good e (unmarked e)
 good_unmarked (one k) = tt

@@ -1,4 +1,3 @@
-pub mod Booleans
 pub mod CodeLemmas
 pub mod Expressions
 pub mod Finals

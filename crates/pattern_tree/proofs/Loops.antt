@@ -1,13 +1,13 @@
 -- A part again and again; and a repeat without end of such a repeat, which is one repeat.
 use Rattle.std.proofs.Common.{◌≡◌, ◌<◌, ◌≤◌, ◌+◌, ℕ, zero, suc, Bool, true, false, ◌&&◌, List, [], ◌∷◌, ◌++◌, inl, inr, length, refl, sym, ap, ◌∙◌, subst, arith, length-append, if◌then◌else◌}
-use Rattle.std.proofs.lemmas.Bool.{eqb-true}
+use Rattle.std.proofs.Math.Bool.{and-true}
+use Rattle.std.proofs.lemmas.Bool.{eqb-true, cases_Bool}
 use Rattle.std.proofs.lemmas.List.{append-nil, nil_from_length}
 use Rattle.pattern_tree.specs.Matching.{Text}
 use Rattle.pattern_tree.specs.declared.program.Op.{Op}
 use Rattle.pattern_tree.specs.declared.program.Op.TheVariants as op
 use Rattle.pattern_tree.specs.declared.program.Part.{Part}
 use Rattle.pattern_tree.specs.Programs.{but_last, spans, is_loop, endless}
-use Rattle.pattern_tree.proofs.Booleans.{truth, and_true}
 use Rattle.pattern_tree.proofs.Expressions.{Expr, one, blank, both, never, either, loop, Power, Powers, Hits, Takes, takes_empty, Fine}
 use Rattle.pattern_tree.proofs.Joins.{power_map, power_join}
 use Rattle.pattern_tree.proofs.Shifts.{empty_to_takes}
@@ -37,7 +37,7 @@ powers_flat b inner P less s h =
     let all = power_flat inner P h.number s h.texts in
     record {
       number = all.number;
-      enough = λ e. elim (truth inner) [
+      enough = λ e. elim (cases_Bool inner) [
         | inl held ↦ let on = less held in absurd (cc)
         | inr none ↦ all.enough none (h.enough e)
       ];
@@ -120,7 +120,7 @@ idle_second hit p q none h =
       flag = h.flag;
       body = h.body;
       is = ap (λ l. code false p ++ l) none ∙ append-nil (code false p) ∙ h.is;
-      empty = ap (λ x. takes_empty p && x) rest.empty ∙ and_true (takes_empty p) ∙ h.empty;
+      empty = ap (λ x. takes_empty p && x) rest.empty ∙ and-true (takes_empty p) ∙ h.empty;
       fine = λ f. h.fine f.0;
       sound = λ s t. h.sound s (subst (Takes hit p) (sym (t.parts ∙ ap (λ x. t.front ++ x) (rest.only t.back t.second) ∙ append-nil t.front)) t.first);
       complete = λ s t. record { front = s; back = []; parts = sym (append-nil s); first = h.complete s t; second = empty_to_takes hit q rest.empty };

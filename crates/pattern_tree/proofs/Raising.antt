@@ -1,14 +1,14 @@
 -- Ranges in order: what it changes to end each by the greatest last character so far, and where a search ends.
 use Rattle.std.proofs.Common.{◌≡◌, ◌<◌, ◌≤◌, ◌-◌, ℕ, zero, suc, max, Bool, true, false, ◌&&◌, ◌||◌, ◌⊎◌, List, [], ◌∷◌, length, get_or, nat_le, refl, sym, ap, ◌∙◌, inl, inr, ⊎_elim, arith}
+use Rattle.std.proofs.Math.Bool.{or-false}
 use Rattle.std.specs.List.{list_any}
 use Rattle.std.specs.List.Sorted.{IsNonDecreasingBy, IsPartitionPoint, IsPermutation}
-use Rattle.std.proofs.lemmas.Bool.{cases_Bool, true≢false, le-leb, lt-leb, leb-true, leb-false}
+use Rattle.std.proofs.lemmas.Bool.{cases_Bool, true≢false, le-leb, lt-leb, leb-true, leb-false, and_from, and_right, and_left}
 use Rattle.std.proofs.lemmas.Bool.Decides.{nat_tests}
 use Rattle.std.proofs.lemmas.List.Folds.{list_any_at, list_any_none}
 use Rattle.std.proofs.lemmas.List.Sorted.{list_any-IsPermutation}
 use Rattle.pattern_tree.specs.declared.range.Range.{Range}
 use Rattle.pattern_tree.specs.Searching.{is_in_range, AreRising, raised}
-use Rattle.pattern_tree.proofs.Booleans.{or_false, and_both}
 
 abbrev first_of : Range → ℕ
 first_of range = range.first
@@ -56,10 +56,10 @@ one_row false p q true x h = absurd (true≢false (sym (h refl)))
 one_row false p q false x h = refl
 
 absorbed : (b p q x : Bool) → (q ≡ true → p ≡ true) → (((b && p) || x) || (b && q)) ≡ ((b && p) || x)
-absorbed false p q x h = or_false x
+absorbed false p q x h = or-false x
 absorbed true true q x h = refl
 absorbed true false true x h = absurd (true≢false (sym (h refl)))
-absorbed true false false x h = or_false x
+absorbed true false false x h = or-false x
 
 below_max : (c top last : ℕ) → nat_le c (max top last) ≡ (nat_le c last || nat_le c top)
 below_max c top last = grind (arith, nat_tests)
@@ -96,13 +96,6 @@ in_order_same c xs ys zs moved up e =
     ap (λ l. list_any (is_in_range c) l) e ∙ raised_same c ys up ∙ sym (list_any-IsPermutation (is_in_range c) xs ys moved)
 
 -- ---- the search
-no_right : (a b : Bool) → b ≡ false → (a && b) ≡ false
-no_right true b e = e
-no_right false b e = refl
-
-no_left : (a b : Bool) → a ≡ false → (a && b) ≡ false
-no_left true b e = absurd (true≢false e)
-no_left false b e = refl
 
 abbrev IsPoint : ℕ → List Range → ℕ → Type 0
 IsPoint c xs i = IsPartitionPoint (λ (x : Range). nat_le x.first c ≡ true) (λ x. nat_le x.first c ≡ false) xs i
@@ -110,17 +103,17 @@ IsPoint c xs i = IsPartitionPoint (λ (x : Range). nat_le x.first c ≡ true) (�
 -- no range begins early enough
 pub found_none : (c : ℕ) (xs : List Range) (i : ℕ) → i ≡ 0 → IsPoint c xs i → false ≡ list_any (is_in_range c) xs
 found_none c xs i e point =
-    sym (list_any_none (is_in_range c) xs (λ k d l. no_left (nat_le (get_or xs k d).first c) (nat_le c (get_or xs k d).last) (point.1 k d (omega arith) l)))
+    sym (list_any_none (is_in_range c) xs (λ k d l. and_left (nat_le (get_or xs k d).first c) (nat_le c (get_or xs k d).last) (point.1 k d (omega arith) l)))
 
 -- the last one that does tells
 pub found_at : (c : ℕ) (xs : List Range) (i : ℕ) (d : Range) → 0 < i → i ≤ length xs → AreRising xs → IsPoint c xs i
     → nat_le c (get_or xs (i - 1) d).last ≡ list_any (is_in_range c) xs
 found_at c xs i d some within rising point =
     ⊎_elim
-    (λ yes. yes ∙ sym (list_any_at (is_in_range c) xs (i - 1) d (omega arith) (and_both _ _ (point.0 (i - 1) d (omega arith) (omega arith)) yes)))
+    (λ yes. yes ∙ sym (list_any_at (is_in_range c) xs (i - 1) d (omega arith) (and_from _ _ (point.0 (i - 1) d (omega arith) (omega arith)) yes)))
     (λ no. no ∙ sym (list_any_none (is_in_range c) xs (λ k e l. ⊎_elim
-    (λ passed. no_left _ _ (point.1 k e passed l))
-    (λ before. no_right _ _ (let a : (get_or xs k e).last ≤ (get_or xs (i - 1) e).last = rising.lasts k (i - 1) e (omega arith) (omega arith) in
+    (λ passed. and_left _ _ (point.1 k e passed l))
+    (λ before. and_right _ _ (let a : (get_or xs k e).last ≤ (get_or xs (i - 1) e).last = rising.lasts k (i - 1) e (omega arith) (omega arith) in
     let same : (get_or xs (i - 1) e).last ≡ (get_or xs (i - 1) d).last = ap last_of (same_default xs (i - 1) e d (omega arith)) in
     let b : (get_or xs (i - 1) d).last < c = leb-false c (get_or xs (i - 1) d).last no in lt-leb c (get_or xs k e).last (omega arith)))
     (order i k))))

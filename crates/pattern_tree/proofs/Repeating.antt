@@ -1,5 +1,6 @@
 -- A repeated part matches the joins of a permitted number of its texts.
 use Rattle.std.proofs.Common.{◌≡◌, ◌≢◌, ◌<◌, ◌≤◌, ◌+◌, ◌-◌, ℕ, zero, suc, Bool, true, false, ◌&&◌, ◌||◌, ◌==◌, Option, Some, None, nat_lt, [], ◌++◌, length, refl, sym, ap, ◌∙◌, subst, arith, if◌then◌else◌}
+use Rattle.std.proofs.Math.Bool.{and-true}
 use Rattle.std.specs.Prelude.{IfSome}
 use Rattle.std.proofs.lemmas.Bool.{ltb-true, ltb-false, eqb-true, eqb-false}
 use Rattle.std.proofs.Math.Dec.{eqb-suc-zero}
@@ -14,7 +15,6 @@ use Rattle.pattern_tree.proofs.Joins.{Maybe, power_join, power_split, power_nil,
 use Rattle.pattern_tree.proofs.Shifts.{empty_to_takes}
 use Rattle.pattern_tree.proofs.Spelling.{Spells, changed, beside_so, powered, powered_so, optional_so, optional_empty, none_or, idle}
 use Rattle.pattern_tree.proofs.Loops.{endless_so}
-use Rattle.pattern_tree.proofs.Booleans.{and_true}
 
 -- the join of so many texts, from the least number to the greatest, if there is one
 pub record Counted (P : Text → Type 0) (least : ℕ) (most : Option ℕ) (s : Text) : Type 0 where
@@ -46,7 +46,7 @@ up_to_is p least more =
     ap (λ b. let part : Part = record { ops = power least p.ops ++ power more (optional p).ops; empty = b } in part) (
     ap (λ x. none_or p.empty least && none_or x more) (optional_empty p)
     ∙ ap (λ x. none_or p.empty least && x) (none_or_true more)
-    ∙ and_true (none_or p.empty least)
+    ∙ and-true (none_or p.empty least)
     ∙ none_or_is p.empty least
     )
 

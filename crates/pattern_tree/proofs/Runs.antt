@@ -1,11 +1,11 @@
 -- The steps of a program do what a pass over its expression does.
 use Rattle.std.proofs.Common.{◌≡◌, ◌+◌, ℕ, zero, suc, Bool, true, false, ◌&&◌, ◌||◌, List, [], ◌∷◌, ◌++◌, length, refl, sym, ap, ◌∙◌, append_assoc, length-append, add-one, if◌then◌else◌, slice_index_or, arith}
+use Rattle.std.proofs.Math.Bool.{or-false, or_assoc}
 use Rattle.pattern_tree.specs.declared.machine.Wire.{Wire}
 use Rattle.pattern_tree.specs.declared.machine.Kept.{Kept}
 use Rattle.pattern_tree.specs.declared.program.Op.{Op}
 use Rattle.pattern_tree.specs.declared.program.Op.TheVariants as op
 use Rattle.pattern_tree.specs.Machine.{wire, or, no_way, kept_of, run, behind, mark_at}
-use Rattle.pattern_tree.proofs.Booleans.{or_false, or_assoc}
 use Rattle.pattern_tree.proofs.Expressions.{Expr, one, blank, both, never, either, loop, Lined, Fine, Marks, pass}
 
 -- the steps of an expression; with the flag those of the sides of an alternation
@@ -86,12 +86,12 @@ behind_behind : (xs ys : List Bool) (r : List Bool × Wire) → behind xs (behin
 behind_behind xs ys r = ap (λ l. let p : List Bool × Wire = (l, r.1) in p) (sym (append_assoc xs ys r.0))
 
 or_no_way : (o : Wire) → or o no_way ≡ o
-or_no_way o = ap (λ n. wire n (o.next || false)) (or_false o.now) ∙ ap (λ x. wire o.now x) (or_false o.next)
+or_no_way o = ap (λ n. wire n (o.next || false)) (or-false o.now) ∙ ap (λ x. wire o.now x) (or-false o.next)
 
 or_or : (a b c : Wire) → or (or a b) c ≡ or a (or b c)
 or_or a b c =
-    ap (λ n. wire n ((a.next || b.next) || c.next)) (sym (or_assoc a.now b.now c.now))
-    ∙ ap (λ x. wire (a.now || (b.now || c.now)) x) (sym (or_assoc a.next b.next c.next))
+    ap (λ n. wire n ((a.next || b.next) || c.next)) (or_assoc a.now b.now c.now)
+    ∙ ap (λ x. wire (a.now || (b.now || c.now)) x) (or_assoc a.next b.next c.next)
 
 left : (b : Bool) (o w : Wire) → (if b then or o w else o) ≡ wire (o.now || (b && w.now)) (o.next || (b && w.next))
 left true o w = refl

@@ -1,5 +1,6 @@
 -- Sets as they are searched.
 use Rattle.std.proofs.Common.{◌≡◌, ◌<◌, ◌+◌, ℕ, zero, suc, Bool, true, false, ◌||◌, List, [], ◌∷◌, ◌++◌, length, take, get_or, fold, refl, sym, ap, ◌∙◌, ⊎_elim, arith}
+use Rattle.std.proofs.Math.Bool.{or-false, or_assoc}
 use Rattle.std.specs.Borrow.{Bor}
 use Rattle.std.specs.List.{list_any}
 use Rattle.pattern_tree.specs.declared.tree.Class.{Class}
@@ -9,7 +10,7 @@ use Rattle.pattern_tree.specs.declared.search.SearchSet.{SearchSet}
 use Rattle.pattern_tree.specs.Trees.{values, is_of, is_of_class, hits_in}
 use Rattle.pattern_tree.specs.Machine.{Reached, taken}
 use Rattle.pattern_tree.specs.Searching.{is_found, found_in, AreInOrder, AreRising}
-use Rattle.std.proofs.lemmas.Bool.{true≢false}
+use Rattle.std.proofs.lemmas.Bool.{true≢false, or_cases}
 use Rattle.std.proofs.lemmas.List.Folds.{list_any-append}
 use Rattle.pattern_tree.specs.declared.range.Range.{Range}
 use Rattle.pattern_tree.specs.declared.tree.Part.{Part}
@@ -17,7 +18,6 @@ use Rattle.pattern_tree.specs.declared.tree.Part.TheVariants as part
 use Rattle.pattern_tree.specs.Trees.{is_in_part}
 use Rattle.pattern_tree.specs.Searching.{is_in_range, is_among}
 use Rattle.pattern_tree.proofs.CodeLemmas.{hits_more}
-use Rattle.pattern_tree.proofs.Booleans.{or_cases, or_false, or_assoc}
 
 -- one more set to search
 pub found_push : (sets : List SearchSet) (set : SearchSet) (c : ℕ) → found_in (sets ++ set ∷ []) c ≡ found_in sets c ++ is_found set c ∷ []
@@ -66,7 +66,7 @@ range_pushed ranges ranges' known range p c e f =
     let new = is_in_range c range in
     ap (λ l. list_any (is_in_range c) l || others) e
     ∙ ap (λ b. b || others) (list_any-append (is_in_range c) ranges (range ∷ []))
-    ∙ ap (λ b. (before || b) || others) (or_false new)
+    ∙ ap (λ b. (before || b) || others) (or-false new)
     ∙ turned_round before others new
     ∙ ap (λ x. (before || others) || is_in_part c x) (sym f)
 
@@ -79,8 +79,8 @@ class_pushed ranges known known' class p c e f =
     let new = is_of_class class c in
     ap (λ l. before || list_any (λ class. is_of_class class c) l) e
     ∙ ap (λ b. before || b) (list_any-append (λ class. is_of_class class c) known (class ∷ []))
-    ∙ ap (λ b. before || (others || b)) (or_false new)
-    ∙ or_assoc before others new
+    ∙ ap (λ b. before || (others || b)) (or-false new)
+    ∙ sym (or_assoc before others new)
     ∙ ap (λ x. (before || others) || is_in_part c x) (sym f)
 
 pub class_known : (ranges : List Range) (known : List Class) (class : Class) (p : Part) (c : ℕ)
@@ -91,7 +91,7 @@ class_known ranges known class p c e f =
     let before = list_any (is_in_range c) ranges in
     let others = list_any (λ class. is_of_class class c) known in
     ap (λ b. before || b) e
-    ∙ or_assoc before others (is_of_class class c)
+    ∙ sym (or_assoc before others (is_of_class class c))
     ∙ ap (λ x. (before || others) || is_in_part c x) (sym f)
 
 -- ---- one more set

@@ -1,10 +1,10 @@
 -- One character is taken rightly: what is left from the new marks on is what was left before, behind
 -- that character.
 use Rattle.std.proofs.Common.{◌≡◌, ℕ, suc, Bool, true, false, ◌&&◌, ◌||◌, [], ◌∷◌, ◌⊎◌, inl, inr, refl, sym, ap, ◌∙◌, arith}
+use Rattle.std.proofs.lemmas.Bool.{or_cases, or_left, or_right, and_parts, and_from, cases_Bool}
 use Rattle.pattern_tree.specs.Matching.{Text}
 use Rattle.pattern_tree.specs.declared.machine.Wire.{Wire}
 use Rattle.pattern_tree.specs.Machine.{wire}
-use Rattle.pattern_tree.proofs.Booleans.{or_cases, or_left, or_right, and_left, and_right, and_both, truth}
 use Rattle.pattern_tree.proofs.Expressions.{Expr, one, blank, both, never, either, loop, Powers, Hits, Takes, takes_empty, Fine, Marks, Rest, final, Good, pass}
 use Rattle.pattern_tree.proofs.Finals.{final_on, pass_now}
 use Rattle.pattern_tree.proofs.Powers.{nil_split, cut_split, Begun, begun, nil_power, any_number}
@@ -15,7 +15,7 @@ takes_to_empty hit (one k) fine h = let e = h.only in absurd (cc)
 takes_to_empty hit blank fine h = refl
 takes_to_empty hit (both p q) fine h =
     let parts = nil_split h in
-    and_both (takes_empty p) (takes_empty q) (takes_to_empty hit p fine.0 parts.0) (takes_to_empty hit q fine.1 parts.1)
+    and_from (takes_empty p) (takes_empty q) (takes_to_empty hit p fine.0 parts.0) (takes_to_empty hit q fine.1 parts.1)
 takes_to_empty hit never fine h = absurd h
 takes_to_empty hit (either p q) fine h =
     elim h [
@@ -23,7 +23,7 @@ takes_to_empty hit (either p q) fine h =
       | inr b ↦ or_right (takes_empty p) (takes_empty q) (takes_to_empty hit q fine.1 b)
     ]
 takes_to_empty hit (loop b p) fine h =
-    elim (truth b) [
+    elim (cases_Bool b) [
       | inl held ↦ held
       | inr none ↦ fine.0 (takes_to_empty hit p fine.1 (nil_power (Takes hit p) h.number (h.enough none) h.texts))
     ]
@@ -35,8 +35,8 @@ empty_to_takes hit (both p q) h = record {
   front = [];
   back = [];
   parts = refl;
-  first = empty_to_takes hit p (and_left (takes_empty p) (takes_empty q) h);
-  second = empty_to_takes hit q (and_right (takes_empty p) (takes_empty q) h);
+  first = empty_to_takes hit p (and_parts (takes_empty p) (takes_empty q) h).0;
+  second = empty_to_takes hit q (and_parts (takes_empty p) (takes_empty q) h).1;
 }
 empty_to_takes hit never h = absurd (cc)
 empty_to_takes hit (either p q) h =
@@ -97,7 +97,7 @@ final_to_rest hit (either p q) m h =
 final_to_rest hit (loop b p) m h =
     elim (or_cases (final p m.1 false) (b && false) h) [
       | inl a ↦ record { front = []; back = []; parts = refl; first = final_to_rest hit p m.1 a; second = record { number = 0; enough = any_number 0; texts = refl } }
-      | inr c ↦ let no = and_right b false c in absurd (cc)
+      | inr c ↦ let no = (and_parts b false c).1 in absurd (cc)
     ]
 
 -- what is left from the marks on, or from the beginning where the wire is on
@@ -106,7 +106,7 @@ From hit e m now s = Rest hit e m s ⊎ ((now ≡ true) × Takes hit e s)
 
 pub shift_to : (hit : Hits) (c : ℕ) (e : Expr) (m : Marks e) (w : Wire) (s : Text) → Fine e → Good e m → Rest hit e (pass (λ k. hit k c) e m w).marks s → From hit e m w.now (c ∷ s)
 shift_to hit c (one k) m w s fine good h =
-    inr (and_left w.now (hit k c) h.0, record { c = c; only = ap (λ t. c ∷ t) h.1; holds = and_right w.now (hit k c) h.0 })
+    inr ((and_parts w.now (hit k c) h.0).0, record { c = c; only = ap (λ t. c ∷ t) h.1; holds = (and_parts w.now (hit k c) h.0).1 })
 shift_to hit c blank m w s fine good h = absurd h
 shift_to hit c (both p q) m w s fine good h =
     let r = pass (λ k. hit k c) p m.0 w in
@@ -162,7 +162,7 @@ shift_from hit c (one k) m w s fine good h =
       | inr t ↦ let e = t.1.only in
           let head : t.1.c ≡ c = cc in
           let tail : s ≡ [] = cc in
-          (and_both w.now (hit k c) t.0 (sym (ap (λ d. hit k d) head) ∙ t.1.holds), tail)
+          (and_from w.now (hit k c) t.0 (sym (ap (λ d. hit k d) head) ∙ t.1.holds), tail)
     ]
 shift_from hit c blank m w s fine good h = elim h [ inl a ↦ absurd a | inr t ↦ let e = t.1 in absurd (cc) ]
 shift_from hit c (both p q) m w s fine good h =

@@ -1,5 +1,6 @@
 -- An alternation matches what one of its sides matches.
 use Rattle.std.proofs.Common.{◌≡◌, Bool, true, false, ◌&&◌, ◌||◌, ◌==◌, [], ◌∷◌, ◌++◌, ◌⊎◌, inl, inr, length, refl, sym, ap, ◌∙◌, subst, append_assoc, if◌then◌else◌}
+use Rattle.std.proofs.Math.Bool.{or-false, or_assoc}
 use Rattle.std.proofs.lemmas.Bool.{eqb-true}
 use Rattle.std.proofs.lemmas.List.{append-nil, nil_from_length}
 use Rattle.pattern_tree.specs.Matching.{Text}
@@ -7,7 +8,6 @@ use Rattle.pattern_tree.specs.declared.program.Op.TheVariants as op
 use Rattle.pattern_tree.specs.declared.program.Part.{Part}
 use Rattle.pattern_tree.specs.declared.program.Sides.{Sides}
 use Rattle.pattern_tree.specs.Programs.{nothing, forked, gathered, no_sides, but_last, optional, only, alternated}
-use Rattle.pattern_tree.proofs.Booleans.{or_false, or_assoc}
 use Rattle.pattern_tree.proofs.Expressions.{Expr, one, blank, both, never, either, loop, Hits, Takes, takes_empty, Lined, Fine}
 use Rattle.pattern_tree.proofs.Joins.{Maybe}
 use Rattle.pattern_tree.proofs.Runs.{code}
@@ -52,9 +52,9 @@ add_empty : (x e : Expr) → Lined x → takes_empty (add x e) ≡ (takes_empty 
 add_empty (one k) e h = absurd h
 add_empty blank e h = absurd h
 add_empty (both p q) e h = absurd h
-add_empty never e h = or_false (takes_empty e)
+add_empty never e h = or-false (takes_empty e)
 add_empty (either p q) e h =
-    ap (λ t. takes_empty p || t) (add_empty q e h) ∙ or_assoc (takes_empty p) (takes_empty q) (takes_empty e)
+    ap (λ t. takes_empty p || t) (add_empty q e h) ∙ sym (or_assoc (takes_empty p) (takes_empty q) (takes_empty e))
 add_empty (loop b p) e h = absurd h
 
 add_to : (hit : Hits) (x e : Expr) → Lined x → (s : Text) → Takes hit (add x e) s → Takes hit x s ⊎ Takes hit e s
@@ -198,7 +198,7 @@ forked_by hit sides P false e g = record {
   expr = g.expr;
   is = record {
     ops = ap (λ l. op.Fork ∷ l ++ op.Join ∷ []) (append-nil sides.ops) ∙ ap (λ l. op.Fork ∷ l ++ op.Join ∷ []) g.ops ∙ sym (lined_code g.expr g.lined);
-    empty = or_false sides.empty ∙ g.empty;
+    empty = or-false sides.empty ∙ g.empty;
     fine = g.fine;
   };
   sound = g.sound;
@@ -214,7 +214,7 @@ side_so hit sides P g p e = record {
   expr = p;
   is = record {
     ops = ap but_last (g.ops ∙ ap (code true) e) ∙ but_last_of (code false p) op.Next;
-    empty = g.empty ∙ ap takes_empty e ∙ or_false (takes_empty p);
+    empty = g.empty ∙ ap takes_empty e ∙ or-false (takes_empty p);
     fine = (subst Fine e g.fine).0;
   };
   sound = λ s t. t;

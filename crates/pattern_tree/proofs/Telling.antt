@@ -1,5 +1,6 @@
 -- From the loop over the text to the promise of `matches`.
-use Rattle.std.proofs.Common.{◌≡◌, ◌↔◌, ℕ, Bool, List, [], ◌∷◌, map, fold, refl, sym, ap, ◌∙◌}
+use Rattle.std.proofs.Common.{◌≡◌, ◌↔◌, ℕ, Bool, List, map, fold, sym, ap, ◌∙◌}
+use Rattle.std.proofs.lemmas.List.{map-id}
 use Rattle.std.specs.Prelude.{Result, Ok, Err, IfOk, IsTrue}
 use Rattle.ifc_base.specs.declared.memory.Memory.{Memory}
 use Rattle.pattern_tree.specs.declared.program.Op.{Op}
@@ -12,17 +13,13 @@ use Rattle.pattern_tree.specs.Programs.{program}
 use Rattle.pattern_tree.specs.Machine.{Reached, taken, begun, is_matched}
 use Rattle.pattern_tree.proofs.Making.{tree_law}
 
-map_same : (xs : List ℕ) → map (λ c. c) xs ≡ xs
-map_same [] = refl
-map_same (x ∷ xs) = ap (λ t. x ∷ t) (map_same xs)
-
 -- behind the last character
 pub ended : (sets : List Set) (part : Part) (ops : List Op) (r : Reached) (xs s : Text) → ops ≡ part.ops → r ≡ fold (taken (hits_in sets) ops) (begun part) xs → map (λ c. c) xs ≡ s
     → r.ends ≡ is_matched sets part s
 ended sets part ops r xs s e f g =
     ap (λ x. x.ends) f
     ∙ ap (λ o. (fold (taken (hits_in sets) o) (begun part) xs).ends) e
-    ∙ ap (λ x. is_matched sets part x) (sym (map_same xs) ∙ g)
+    ∙ ap (λ x. is_matched sets part x) (sym (map-id xs) ∙ g)
 
 -- what the program answers is what the pattern matches
 pub told : (tree : Tree) (s : Text) (part : Part) (n : ℕ) (sets : List Set) (r : Result Bool Memory) → program tree 0 ≡ (let p : Part × ℕ = (part, n) in p) → sets ≡ sets_of tree

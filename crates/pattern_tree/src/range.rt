@@ -42,7 +42,8 @@ pub(crate) fn put_in_order(ranges: &mut [Range])
 fn begun(ranges: &[Range], c: char) -> usize
     requires { AreRising ranges.now }
     ensures bound { result ≤ length ranges.now }
-    ensures point { IsPartitionPoint (λ range. nat_le range.first c ≡ true) (λ range. nat_le range.first c ≡ false) ranges.now result }
+    ensures point { IsPartitionPoint (λ range. nat_le range.first c ≡ true) (λ range. nat_le range.first c ≡ false)
+        ranges.now result }
 {
     ranges.partition_point(
         |range: &Range| -> bool

@@ -1,7 +1,7 @@
 -- Repeats: what is read is spelled so, and what is spelled so is read.
 use Rattle.std.proofs.Common.{◌≡◌, ℕ, ◌-◌, ◌<◌, ◌≤◌, Bool, true, false, cond, eqb, List, [], ◌∷◌, length, Option, Some, None, Ok, refl, sym, ap, ◌∙◌, subst, inl, inr, arith}
 use Rattle.std.specs.Prelude.{nat_le, ◌||◌}
-use Rattle.std.proofs.lemmas.Bool.{eqb-true}
+use Rattle.std.proofs.lemmas.Bool.{eqb-true, or_parts}
 use Rattle.std.proofs.lemmas.Bool.Decides.{nat_tests}
 use Rattle.reading.specs.Reading.{Text, Refused, ◌>>=◌, refuse}
 use Rattle.reading.specs.Runs.{begins, run}
@@ -163,17 +163,13 @@ repeat_complete (IsTimes.between t n r m u b more le) =
 abbrev pub is_repeat : ℕ → Bool
 is_repeat c = eqb c 42 || eqb c 43 || eqb c 63 || eqb c 123
 
-or_false : (a b : Bool) → (a || b) ≡ false → (a ≡ false) × (b ≡ false)
-or_false true b e = absurd cc
-or_false false b e = (refl, e)
-
 pub no_repeat_here : (t : Text) → begins is_repeat t ≡ false → repeat_here t ≡ Ok (None, t)
 unfolding repeat_here
 no_repeat_here [] e = refl
 no_repeat_here (c ∷ t) e =
-    let a = or_false (eqb c 42 || eqb c 43 || eqb c 63) (eqb c 123) e in
-    let b = or_false (eqb c 42 || eqb c 43) (eqb c 63) a.0 in
-    let d = or_false (eqb c 42) (eqb c 43) b.0 in
+    let a = or_parts (eqb c 42 || eqb c 43 || eqb c 63) (eqb c 123) e in
+    let b = or_parts (eqb c 42 || eqb c 43) (eqb c 63) a.0 in
+    let d = or_parts (eqb c 42) (eqb c 43) b.0 in
     rw (d.0, d.1, b.1, a.1) refl
 
 pub times_shorter : {t : Text} {n : Times} {u : Text} → IsTimes t n u → length u < length t

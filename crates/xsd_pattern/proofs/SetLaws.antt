@@ -1,7 +1,7 @@
 -- Classes between brackets: what is read is spelled so, and what is spelled so is read.
 use Rattle.std.proofs.Common.{◌≡◌, ℕ, ◌<◌, ◌≤◌, Bool, true, false, cond, eqb, [], ◌∷◌, ◌++◌, length, Option, Some, None, Ok, refl, ap, subst, inl, inr, arith}
 use Rattle.std.specs.Prelude.{nat_le, ◌&&◌}
-use Rattle.std.proofs.lemmas.Bool.{eqb-true}
+use Rattle.std.proofs.lemmas.Bool.{eqb-true, and_parts}
 use Rattle.std.proofs.lemmas.Bool.Decides.{nat_tests}
 use Rattle.reading.specs.Reading.{Text, Refused, Read, ◌>>=◌, refuse}
 use Rattle.reading.proofs.Tools.{bound as steps, kept, chosen, ok_is, tested}
@@ -13,10 +13,6 @@ use Rattle.xsd_pattern.specs.declared.fault.PatternCause.TheVariants.{Syntax}
 use Rattle.xsd_pattern.specs.Characters.{is_reserved, is_escapable, escaped, class_of, is_plain, greatest_escaped}
 use Rattle.xsd_pattern.specs.Sets.{Parts, range, one, end_escaped, end_escape, range_end, last_dash, ranged, behind_dash, behind_member, member_else, member_by, member_escape, is_empty, dash, class_turn}
 use Rattle.xsd_pattern.specs.Grammar.{Member, IsPart}
-
-and_true : (a b : Bool) → (a && b) ≡ true → (a ≡ true) × (b ≡ true)
-and_true true b e = (refl, e)
-and_true false b e = absurd cc
 
 -- ---- what is known of escapes
 
@@ -59,7 +55,7 @@ range_end_sound a (c ∷ t) b u h =
           (rw (eqb-true c 92 k.0, e.1) (Member.escape e.0 b u e.2), e.3)
       | inr k ↦
           let m = kept (is_plain c && nat_le a c) (Ok (c, t)) Syntax (c ∷ t) (b, u) k.1 in
-          let p = and_true (is_plain c) (nat_le a c) m.0 in
+          let p = and_parts (is_plain c) (nat_le a c) m.0 in
           let s = ok_is {E = Refused PatternCause} (c, t) (b, u) m.1 in
           let le : a ≤ c = let is = p.1 in grind (arith, nat_tests) in
           let same : c ≡ b = ap (λ (y : ℕ × Text). y.0) s in

@@ -141,11 +141,13 @@ impl Pattern {
         }
     }
 
-    /// Whether the pattern matches the text, as a whole. The answer is the definition's for every text; the only refusal is want
-    /// of memory. All ways through the pattern are followed at once and none is gone back (`pattern_tree::matches`): for a weight
-    /// `w` at most `17 w` steps for each character of the text, however deep groups nest, and one binary search for each set, of
-    /// which there are at most `w`, each with fewer than 1,000 parts: at most 12 comparisons, and six classes. So a character takes
-    /// `O(w)`. Before the first `O(d w + p log p)`, for groups `d` deep and `p` characters of pattern. Memory is `O(w + p)`.
+    /// Whether the pattern matches the text, as a whole. The answer is the definition's for every text;
+    /// the only refusal is want of memory. All ways through the pattern are followed at once and none is
+    /// gone back (`pattern_tree::matches`): for a weight `w` at most `17 w` steps for each character of
+    /// the text, however deep groups nest, and one binary search for each set, of which there are at most
+    /// `w`, each with fewer than 1,000 parts: at most 12 comparisons, and six classes. So a character
+    /// takes `O(w)`. Before the first `O(d w + p log p)`, for groups `d` deep and `p` characters of
+    /// pattern. Memory is `O(w + p)`.
     pub fn matches(&self, alloc: Global, text: &str) -> Result<bool, Memory>
         ensures { IfOk result (λ answer. IsTrue answer ↔ Matches self.now (chars text.now)) }
     {

@@ -20,8 +20,8 @@ unwrap-state-requires g c =
     c.close_with-closed.ensures.values.2 in
     subst IsSome (sym (taken _ _ _ _ _ _ c.take.result e c.take.ensures.value)) refl
 
-pub returns-clause-ground : goal.returns-clause-ground
-returns-clause-ground g c =
+pub returns : goal.returns
+returns g c =
     let s = c.remove-maker.result in
     let r = c.remove-maker.ensures in
     let b = c.into_seat-first.ensures in
@@ -34,21 +34,7 @@ returns-clause-ground g c =
     (at_index c.args.seats.items 0 s (omega arith) r.value) r.items c.maker.view_is c.maker.invariant b.2 t.first.2 t.taken
     c.close_with-closed.ensures.values.2 in
     let same = state_is _ _ _ _ _ _ c.take.result c.unwrap-state.result e c.take.ensures.value c.unwrap-state.ensures in
-    subst fits same e.fit
-
-pub returns-clause-history : goal.returns-clause-history
-returns-clause-history g c =
-    let s = c.remove-maker.result in
-    let r = c.remove-maker.ensures in
-    let b = c.into_seat-first.ensures in
-    let t = c.gather.ensures in
-    let began = c.args.self.table.shared.key in
-    let fits : g.row.S.Denot → Type 0 = λ y. g.S.Journaled.ground y ≡ g.S.Journaled.ground began.state.value in
-    let e = closes g.S.Journaled.entries g.S.Journaled.maker fits (g.S.Journaled.entries began.state.value)
-    c.args.self.table.shared.table_id began.seats c.gather.new.first.id _ _ s c.args.seats.items c.remove-maker.new.self.items _
-    c.into_seat-first.result.me.0 c.gather.new.first.me.0 _ _ (omega (arith, c.requires.0)) c.requires.1
-    (at_index c.args.seats.items 0 s (omega arith) r.value) r.items c.maker.view_is c.maker.invariant b.2 t.first.2 t.taken
-    c.close_with-closed.ensures.values.2 in
-    let same = state_is _ _ _ _ _ _ c.take.result c.unwrap-state.result e c.take.ensures.value c.unwrap-state.ensures in
-    subst (λ y. HasAll g.S.Journaled.maker (g.S.Journaled.entries began.state.value)
-    (g.S.Journaled.entries y) c.args.seats.items) same e.history
+    record {
+      ground = subst fits same e.fit;
+      history = subst (λ y. HasAll g.S.Journaled.maker (g.S.Journaled.entries began.state.value) (g.S.Journaled.entries y) c.args.seats.items) same e.history;
+    }

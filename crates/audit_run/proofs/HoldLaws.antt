@@ -185,7 +185,7 @@ begun_first h actor (x ∷ xs) b p e =
 pub begun_others : (h : List StepRec) (actor : ℕ) (bs : List Begun) → AreBegun h bs → AreBegun h (other_drafts actor bs)
 begun_others h actor bs p = subst (AreBegun h) (first_removed (drafted_by actor) bs) (begun_remove h bs (position_or_len (drafted_by actor) bs) p)
 
-pub revision_grows : (e : StepRec) (h : List StepRec) → revision h ≤ revision (e ∷ h)
+revision_grows : (e : StepRec) (h : List StepRec) → revision h ≤ revision (e ∷ h)
 revision_grows e h = elim (accepted e) as (λ o. length (commits h) ≤ length (cons_option o (commits h))) [ None ↦ omega arith | Some edits ↦ omega arith ]
 
 -- No other reply is Began.

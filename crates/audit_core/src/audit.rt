@@ -9,7 +9,8 @@ ghost use Rattle.audit_model.specs.Machine.{is_full, least_claimable, least_unse
 ghost use Rattle.audit_core.specs.Changes.{has_place};
 ghost use Rattle.audit_core.specs.Cores.{now_of};
 ghost use Rattle.audit_core.specs.Commits.{gives_full, IsNotPrepared, IsPlan, IsPlanned, IsPreparedFor};
-ghost use Rattle.audit_core.specs.Steps.{claim_told, delivery_told, publish_told, tells_full, Adds, IfGiven, IsAudit, IsClaimOf, IsHalted, IsOut, IsTrueFinding, IsUse, Unchanged};
+ghost use Rattle.audit_core.specs.Steps.{claim_told, delivery_told, publish_told, tells_full};
+ghost use Rattle.audit_core.specs.Steps.{Adds, IfGiven, IsAudit, IsClaimOf, IsHalted, IsOut, IsTrueFinding, IsUse, Unchanged};
 
 use crate::board::{
     Kept, Row, back_to, empty_rows, first_unsettled, next_claimable, pair_at, place_of, settle,
@@ -19,6 +20,7 @@ use crate::changes::ChangeLog;
 use crate::claims::take_back;
 use crate::journal::CoreJournal;
 use crate::plan::{Planned, plan_commit};
+use crate::prepared::Prepared;
 use crate::tallies::tally_all;
 use audit_model::{
     Call, CommitRefusal, Edits, Given, Limits, Pair, Reply, Specification, StepRec, Tally,
@@ -30,29 +32,6 @@ use model_view::{
 use report_text::render_report;
 use std::alloc::Global;
 use std::marker::Model;
-
-/// A commit that is accepted and not made yet. It may be dropped, which leaves the core as it is.
-#[derive(Drop)]
-pub struct Prepared {
-    actor: u32,
-    base: u32,
-    edits: Edits,
-    next: Snapshot,
-    keys: Keys,
-    rows: Vec<Row>,
-}
-
-impl Model for Prepared {
-    ghost use Rattle.std.specs.Coded.{codes};
-    ghost use Rattle.ifc_base.specs.contracts.value.Value as value;
-    ghost use Rattle.audit_core.specs.Commits.{PreparedView};
-
-    ghost Value = { PreparedView };
-
-    ghost coded = { Prim.hlevel (codes, value.the_row.coded) };
-
-    ghost view = { λ prepared. record { actor = prepared.actor; base = prepared.base; edits = prepared.edits; next = prepared.next; keys = prepared.keys; rows = prepared.rows.items } };
-}
 
 /// One model in numbered revisions, with the journal of all that was asked of it. Contracts see what
 /// stays the same - the specifications, the model of the file, the limits - and the history, the newest
@@ -85,11 +64,12 @@ impl<'a> Model for Core<'a> {
       ground = record { specs = core.specs.now; first = core.first.model; limits = core.limits };
       history = reverse core.journal.items;
       spare = vec_capacity core.journal - (length core.journal.items + length core.claims.items);
-      shelf = core.log;
+      places = core.log;
     } };
 
     ghost invariant = { λ core. IsKept (record { specs = core.specs.now; first = core.first.model; limits = core.limits })
-        (reverse core.journal.items) core.current core.board.items core.passed core.claims.items core.log core.number (vec_capacity core.journal) };
+        (reverse core.journal.items) core.current core.board.items core.passed core.claims.items core.log core.number
+        (vec_capacity core.journal) };
 }
 
 impl<'a> Core<'a> {
@@ -486,7 +466,7 @@ impl<'a> Core<'a> {
     fn make_places(&mut self, keys: &Keys) -> Result<(), Memory>
         ensures same { Unchanged self.old self.new }
         ensures spare { self.new.spare ≡ self.old.spare }
-        ensures placed { OnOk result (list_all (has_place self.new.shelf) keys.now ≡ true) }
+        ensures placed { OnOk result (list_all (has_place self.new.places) keys.now ≡ true) }
     {
         self.log.make_places(keys.as_slice())
     }

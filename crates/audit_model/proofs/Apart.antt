@@ -10,10 +10,6 @@ use Rattle.audit_model.specs.Models.{IsModel, AllAbove}
 use Rattle.audit_model.specs.Pairs.{same_pair, pairs, NumberedFrom}
 use Rattle.audit_model.proofs.PairLists.{makes, pair_with, made_of, all_made, pairs_made}
 
-pub or_parts : (a b : Bool) → (a || b) ≡ false → (a ≡ false) × (b ≡ false)
-or_parts true b e = absurd (cc)
-or_parts false b e = (refl, e)
-
 pub same_pair-true : (p q : Pair) → same_pair p q ≡ true → p ≡ q
 same_pair-true p q e =
     let h : (p.spec == q.spec ≡ true) × (p.elem == q.elem ≡ true) = and_parts _ _ e in

@@ -13,7 +13,7 @@ use Rattle.audit_model.specs.Laws.{AllAfter, ArePairsAscending}
 use Rattle.audit_model.proofs.PairOrder.{pairs_ascend}
 use Rattle.audit_core.specs.declared.board.Row.{Row}
 use Rattle.audit_core.specs.declared.board.Kept.{Kept}
-use Rattle.audit_core.specs.Rows.{below, AreAfter, AreAscending, board_by, row_by, empty_row, settled_rows, carried_row, kept_over, stays_kept}
+use Rattle.audit_core.specs.Rows.{AreAfter, AreAscending, board_by, row_by, empty_row, settled_rows, carried_row, kept_over, stays_kept}
 use Rattle.audit_core.proofs.Order.{to_below}
 
 after_rows : (f : Pair → Row) → ((p : Pair) → (f p).pair ≡ p) → (p : Pair) (ps : List Pair) → AllAfter p ps → AreAfter p (map f ps)

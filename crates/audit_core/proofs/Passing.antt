@@ -1,9 +1,6 @@
 -- A call that adds no entry, and then another.
-use Rattle.std.proofs.Common.{◌≡◌, ◌≤◌, ℕ, true, ◌∙◌, Result, Ok, Err, IfErr, OnOk, List, subst, arith}
-use Rattle.std.specs.List.{list_all}
-use Rattle.ifc_base.specs.declared.key.Key.{Key}
+use Rattle.std.proofs.Common.{◌≤◌, ℕ, ◌∙◌, Result, Ok, Err, IfErr, OnOk, arith}
 use Rattle.audit_model.specs.declared.step.StepRec.{StepRec}
-use Rattle.audit_model.specs.Machine.{is_full}
 use Rattle.model_view.specs.Views.{DraftView}
 use Rattle.model_view.specs.declared.answers.Halt.{Halt}
 use Rattle.model_view.specs.declared.answers.Halt.TheVariants as halt
@@ -11,7 +8,7 @@ use Rattle.model_view.specs.declared.answers.NotPrepared.{NotPrepared}
 use Rattle.model_view.specs.declared.answers.NotPrepared.TheVariants.{Refused, Full, Memory}
 use Rattle.audit_core.specs.Changes.{has_place}
 use Rattle.audit_core.specs.Cores.{CoreView}
-use Rattle.audit_core.specs.Commits.{IsNotPrepared, IsPreparedFor, PreparedStays, PreparedView}
+use Rattle.audit_core.specs.Commits.{IsNotPrepared, PreparedStays}
 use Rattle.audit_core.specs.Steps.{Adds, IsHalted, Unchanged}
 use Rattle.audit_core.proofs.Logs.{all_kept}
 

@@ -1,6 +1,6 @@
 -- The place of an id in a model.
-use Rattle.std.proofs.Common.{◌≡◌, ℕ, suc, zero, ◌+◌, ◌<◌, ◌≤◌, Bool, true, false, not, cond, ◌||◌, ◌==◌, if◌then◌else◌, nat_lt, List, [], ◌∷◌, length, get_or, take, drop, filter, find, insert, Option, Some, None, refl, arith, ap, sym, subst, ◌∙◌, one-add}
-use Rattle.std.specs.List.{prefix_len, slice_get, remove, list_any}
+use Rattle.std.proofs.Common.{◌≡◌, ℕ, suc, zero, ◌+◌, ◌<◌, ◌≤◌, Bool, true, false, cond, ◌||◌, ◌==◌, if◌then◌else◌, nat_lt, List, [], ◌∷◌, length, get_or, insert, Option, Some, None, refl, arith, ap, sym, subst, ◌∙◌, one-add}
+use Rattle.std.specs.List.{slice_get, remove}
 use Rattle.std.specs.List.Sorted.{IsPartitionedBy, IsPartitionPoint}
 use Rattle.std.proofs.lemmas.Option.{slice_get_past, slice_get_read}
 use Rattle.std.proofs.lemmas.Bool.{or_parts, lt-ltb, le-ltb, ltb-true, ltb-false, eqb-false, ne_eqb, true≢false}

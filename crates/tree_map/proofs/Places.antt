@@ -1,5 +1,5 @@
 -- The place of a digit in a node.
-use Rattle.std.proofs.Common.{◌≡◌, ◌≢◌, ℕ, suc, zero, ◌+◌, ◌<◌, ◌≤◌, ◌⊎◌, Bool, true, false, not, cond, nat_lt, List, [], ◌∷◌, length, get_or, insert, Some, None, is_some, refl, arith, ap, sym, subst, ◌∙◌, inl, inr, one-add}
+use Rattle.std.proofs.Common.{◌≡◌, ◌≢◌, ℕ, suc, zero, ◌+◌, ◌<◌, ◌≤◌, ◌⊎◌, true, false, not, cond, nat_lt, List, [], ◌∷◌, length, get_or, insert, Some, None, is_some, refl, arith, ap, sym, subst, ◌∙◌, inl, inr, one-add}
 use Rattle.std.specs.List.{remove}
 use Rattle.std.specs.List.Sorted.{IsPartitionedBy, IsPartitionPoint}
 use Rattle.std.proofs.Math.ListN.{set}

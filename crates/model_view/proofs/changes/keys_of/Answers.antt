@@ -1,4 +1,4 @@
-use Rattle.std.proofs.Common.{◌≡◌, ◌∙◌, ◌+◌, ◌++◌, [], ◌∷◌, take, if◌then◌else◌}
+use Rattle.std.proofs.Common.{◌≡◌, ◌+◌, ◌++◌, [], ◌∷◌, take, if◌then◌else◌}
 use Rattle.ifc_base.specs.declared.key.Key.TheVariants.{Inst}
 use Rattle.audit_model.specs.Keys.{changes}
 use Rattle.model_view.specs.Changed.{changed_keys}

@@ -1,4 +1,3 @@
-use Rattle.std.proofs.Common.{◌≡◌, ◌∙◌, sym}
 use Rattle.model_view.proofs.Changed.{changed_keys_are}
 use Rattle.model_view.proofs.snapshot.Snapshot.with_edits.Goals as goal
 

@@ -1,5 +1,6 @@
 -- What a search of the rows finds, and what keeping a finding does to them.
 use Rattle.std.proofs.Common.{◌≡◌, Bool, true, false, cond, not, ◌&&◌, ◌||◌, if◌then◌else◌, List, [], ◌∷◌, map, find, is_none, length, Some, None, refl, ap, sym, subst}
+use Rattle.std.proofs.lemmas.Bool.{or_parts}
 use Rattle.std.proofs.lemmas.List.{length-map}
 use Rattle.std.specs.Option.{option_map}
 use Rattle.std.specs.List.{list_any}
@@ -8,7 +9,7 @@ use Rattle.audit_model.specs.declared.verdict.Pair.{Pair}
 use Rattle.audit_model.specs.declared.step.Given.{Given}
 use Rattle.audit_model.specs.Pairs.{pairs, same_pair}
 use Rattle.audit_model.specs.History.{Ground, settled_by, stands_by, model_after}
-use Rattle.audit_model.proofs.Apart.{AreApart, same_pair-true, or_parts}
+use Rattle.audit_model.proofs.Apart.{AreApart, same_pair-true}
 use Rattle.audit_core.specs.declared.board.Row.{Row}
 use Rattle.audit_core.specs.declared.board.Kept.{Kept}
 use Rattle.audit_core.specs.Rows.{board_by, row_by, settled_rows, found, is_claimable}

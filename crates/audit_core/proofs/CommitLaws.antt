@@ -1,7 +1,7 @@
 -- What an accepted commit leaves of the rows, and the core's fields after it.
 use Rattle.std.proofs.Common.{◌≡◌, ℕ, suc, ◌+◌, ◌<◌, ◌≤◌, Bool, true, false, not, ◌&&◌, ◌||◌, ◌==◌, cond, if◌then◌else◌, nat_lt, List, [], ◌∷◌, map, find, is_none, length, Option, Some, None, refl, arith, ap, sym, subst, ◌∙◌}
 use Rattle.std.specs.List.{list_any, list_all}
-use Rattle.std.proofs.lemmas.Bool.{false≢true, and_parts, lt-ltb, le-ltb, ltb-true}
+use Rattle.std.proofs.lemmas.Bool.{false≢true, and_parts, or_parts, lt-ltb, le-ltb, ltb-true}
 use Rattle.ifc_base.specs.declared.value.Instance.{Instance}
 use Rattle.ifc_base.specs.declared.key.Key.{Key}
 use Rattle.ifc_base.specs.KeyOrder.{key_eq}
@@ -23,7 +23,7 @@ use Rattle.audit_model.specs.Needs.{need}
 use Rattle.audit_model.specs.Pairs.{pairs, same_pair}
 use Rattle.audit_model.specs.Judging.{judge_from, fault_of, conflict_of, id_fault_of, attribute_fault_of, room_fault_of, refused_or}
 use Rattle.audit_model.specs.History.{Ground, AllModels, commits, used, current, revision, last_of, last_change, model_after, settled_by}
-use Rattle.audit_model.proofs.Apart.{AreApart, apart_pairs, same_pair-true, or_parts}
+use Rattle.audit_model.proofs.Apart.{AreApart, apart_pairs, same_pair-true}
 use Rattle.audit_model.proofs.Claims.{IsSound, sound_used}
 use Rattle.audit_model.proofs.EditLaws.{edits_accepted, model_applied, or_none}
 use Rattle.audit_model.proofs.Frame.{Stays, stays}

@@ -2,7 +2,7 @@
 use Rattle.std.proofs.Common.{◌≡◌, ℕ, suc, zero, ◌+◌, ◌<◌, ◌≤◌, Bool, true, false, not, cond, ◌&&◌, ◌||◌, ◌==◌, if◌then◌else◌, List, [], ◌∷◌, ◌++◌, length, take, filter, is_none, Option, Some, None, IsSome, arith, refl, ap, sym, ◌∙◌}
 use Rattle.std.specs.List.{list_any}
 use Rattle.std.specs.Option.{option_map}
-use Rattle.std.proofs.lemmas.Bool.{false≢true, true≢false, eqb-true}
+use Rattle.std.proofs.lemmas.Bool.{false≢true, true≢false, or_parts, eqb-true}
 use Rattle.audit_model.specs.declared.verdict.Pair.{Pair}
 use Rattle.audit_model.specs.declared.step.Given.{Given}
 use Rattle.audit_model.specs.declared.step.StepRec.{StepRec}
@@ -18,7 +18,6 @@ use Rattle.audit_model.proofs.Numbers.{out_numbers}
 use Rattle.audit_core.specs.declared.board.Row.{Row}
 use Rattle.audit_core.specs.declared.board.Kept.{Kept}
 use Rattle.audit_core.specs.Rows.{is_claimable, row_place, settled_rows, back_to}
-use Rattle.audit_core.proofs.Lists.{or_parts}
 
 pub removed_shorter : (n : ℕ) (cs : List Given) → IsSome (claim_numbered n cs) → length (without_claim n cs) + 1 ≤ length cs
 removed_shorter n cs s =

@@ -12,11 +12,11 @@ use Rattle.audit_model.specs.declared.commit.EditFault.TheVariants.{NoInstance}
 use Rattle.audit_model.specs.declared.step.Limits.{Limits}
 use Rattle.audit_model.specs.Models.{AllAbove, IsModel, is_present, with_instance}
 use Rattle.audit_model.specs.Edits.{edit_id, edited, apply, without_instance}
-use Rattle.audit_model.specs.Judging.{judge_from, fault_of, conflict_of, id_fault_of, attribute_fault_of, room_fault_of, refused_or}
+use Rattle.audit_model.specs.Judging.{judge_from, fault_of, fault_given, conflict_of, id_fault_of, id_fault_given, attribute_fault_of, room_fault_of, room_fault_given, refused_or}
 use Rattle.audit_model.proofs.EditLaws.{or_none}
 use Rattle.audit_model.proofs.OrderLemmas.{any-with_instance}
 use Rattle.model_view.specs.Views.{AreAccepted}
-use Rattle.audit_core.specs.Judged.{fault_given, id_fault_given, room_fault_given, present_after, count_after}
+use Rattle.audit_core.specs.Judged.{present_after, count_after}
 use Rattle.audit_core.proofs.First.{length-with_instance}
 
 -- a search finds something exactly where something passes

@@ -1,5 +1,5 @@
 -- Notes of keys, one at a time; and what the log says of what a claim needs.
-use Rattle.std.proofs.Common.{◌≡◌, ℕ, suc, zero, ◌+◌, ◌<◌, Bool, true, false, ◌&&◌, ◌||◌, if◌then◌else◌, List, [], ◌∷◌, length, take, get_or, refl, subst, arith}
+use Rattle.std.proofs.Common.{◌≡◌, ℕ, suc, zero, ◌+◌, ◌<◌, Bool, true, false, ◌&&◌, ◌||◌, if◌then◌else◌, List, [], ◌∷◌, length, take, get_or, refl, sym, subst, add-one, arith}
 use Rattle.std.specs.List.{list_all, list_any}
 use Rattle.std.proofs.lemmas.Bool.{and_parts}
 
@@ -23,11 +23,8 @@ all_suc t (y ∷ ys) (suc i) x h l e k =
     let both : (t y ≡ true) × (list_all t (take i ys) ≡ true) = and_parts (t y) (list_all t (take i ys)) h in
     rw both.0 (all_suc t ys i x both.1 (omega (arith, l)) e k)
 
-up : (n : ℕ) → suc n ≡ n + 1
-up n = omega arith
-
 pub all_more : {X : Type 0} (t : X → Bool) (xs : List X) (i : ℕ) (x : X) → list_all t (take i xs) ≡ true → i < length xs → x ≡ get_or xs i x → t x ≡ true → list_all t (take (i + 1) xs) ≡ true
-all_more t xs i x h l e k = subst (λ (j : ℕ). list_all t (take j xs) ≡ true) (up i) (all_suc t xs i x h l e k)
+all_more t xs i x h l e k = subst (λ (j : ℕ). list_all t (take j xs) ≡ true) (sym (add-one i)) (all_suc t xs i x h l e k)
 
 or_last : (a b c : Bool) → (a || (b || c)) ≡ ((a || b) || c)
 or_last true b c = refl
@@ -43,7 +40,7 @@ any_suc t (y ∷ ys) zero x l e = let same : x ≡ y = e in rw (← same) (or_fa
 any_suc t (y ∷ ys) (suc i) x l e = rw (any_suc t ys i x (omega (arith, l)) e) (or_last (t y) (list_any t (take i ys)) (t x))
 
 pub any_more : {X : Type 0} (t : X → Bool) (xs : List X) (i : ℕ) (x : X) → i < length xs → x ≡ get_or xs i x → list_any t (take (i + 1) xs) ≡ (list_any t (take i xs) || t x)
-any_more t xs i x l e = subst (λ (j : ℕ). list_any t (take j xs) ≡ (list_any t (take i xs) || t x)) (up i) (any_suc t xs i x l e)
+any_more t xs i x l e = subst (λ (j : ℕ). list_any t (take j xs) ≡ (list_any t (take i xs) || t x)) (sym (add-one i)) (any_suc t xs i x l e)
 
 -- what is noted of a key after one more
 pub note_more : (a b : Bool) (r n : ℕ) → (if b then r else (if a then r else n)) ≡ (if (a || b) then r else n)

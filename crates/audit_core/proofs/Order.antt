@@ -1,43 +1,36 @@
 -- The order of pairs, and rows in this order.
-use Rattle.std.proofs.Common.{◌≡◌, ℕ, suc, ◌+◌, ◌<◌, ◌≤◌, Bool, true, false, cond, ◌&&◌, ◌||◌, ◌==◌, ◌⊎◌, if◌then◌else◌, nat_lt, List, [], ◌∷◌, length, get_or, Option, Some, None, refl, arith, ap, sym, ◌∙◌, inl, inr, set}
+use Rattle.std.proofs.Common.{◌≡◌, ℕ, suc, ◌+◌, ◌<◌, ◌≤◌, Bool, true, false, cond, ◌&&◌, ◌||◌, ◌==◌, if◌then◌else◌, nat_lt, List, [], ◌∷◌, length, get_or, Option, Some, None, refl, arith, ap, sym, subst, ◌∙◌, inl, inr, set}
 use Rattle.std.specs.List.{prefix_len, slice_get, list_any}
 use Rattle.std.specs.Option.{option_map}
 use Rattle.std.proofs.lemmas.Option.{slice_get_past, slice_get_read}
 use Rattle.std.proofs.lemmas.Bool.{cases_lt, and_parts, lt-ltb, le-ltb, ltb-true, eqb-true, eq-eqb, true≢false}
 use Rattle.audit_model.specs.declared.verdict.Pair.{Pair}
 use Rattle.audit_model.specs.Pairs.{same_pair}
+use Rattle.audit_model.specs.Laws.{ComesBefore}
+use Rattle.audit_model.proofs.Apart.{same_pair-true}
 use Rattle.audit_core.specs.declared.board.Row.{Row}
 use Rattle.audit_core.specs.declared.board.Kept.{Kept}
 use Rattle.audit_core.specs.Rows.{below, AreAfter, AreAscending, row_place, settled_rows}
 use Rattle.audit_core.proofs.Lists.{IsSplit}
 
-abbrev pub IsBelow : Pair → Pair → Type 0
-IsBelow p q = (p.spec < q.spec) ⊎ ((p.spec ≡ q.spec) × (p.elem < q.elem))
-
-pub is_below : (p q : Pair) → below p q ≡ true → IsBelow p q
+pub is_below : (p q : Pair) → below p q ≡ true → ComesBefore p q
 is_below p q e =
-    let F : Bool → Type 0 = λ b. nat_lt p.spec q.spec ≡ b → (b || (p.spec == q.spec && nat_lt p.elem q.elem)) ≡ true → IsBelow p q in
+    let F : Bool → Type 0 = λ b. nat_lt p.spec q.spec ≡ b → (b || (p.spec == q.spec && nat_lt p.elem q.elem)) ≡ true → ComesBefore p q in
     let at : F (nat_lt p.spec q.spec) = elim (nat_lt p.spec q.spec) as F [
       | true ↦ λ k h. inl (ltb-true p.spec q.spec k)
       | false ↦ λ k h. let both : ((p.spec == q.spec) ≡ true) × (nat_lt p.elem q.elem ≡ true) = and_parts (p.spec == q.spec) (nat_lt p.elem q.elem) h in inr (eqb-true p.spec q.spec both.0, ltb-true p.elem q.elem both.1)
     ] in
     at refl e
 
-pub to_below : (p q : Pair) → IsBelow p q → below p q ≡ true
+pub to_below : (p q : Pair) → ComesBefore p q → below p q ≡ true
 to_below p q (inl l) = rw (lt-ltb p.spec q.spec l)
 to_below p q (inr h) = rw (le-ltb p.spec q.spec (omega (arith, h.0)), eq-eqb p.spec q.spec h.0, lt-ltb p.elem q.elem h.1)
 
-over : (p q r : Pair) → IsBelow p q → IsBelow q r → IsBelow p r
+over : (p q r : Pair) → ComesBefore p q → ComesBefore q r → ComesBefore p r
 over p q r (inl a) (inl b) = inl (omega (arith, a, b))
 over p q r (inl a) (inr b) = inl (omega (arith, a, b.0))
 over p q r (inr a) (inl b) = inl (omega (arith, a.0, b))
 over p q r (inr a) (inr b) = inr (a.0 ∙ b.0, omega (arith, a.1, b.1))
-
-not_both : (p q : Pair) → IsBelow p q → IsBelow q p → ⊥
-not_both p q (inl a) (inl b) = omega (arith, a, b)
-not_both p q (inl a) (inr b) = omega (arith, a, b.0)
-not_both p q (inr a) (inl b) = omega (arith, a.0, b)
-not_both p q (inr a) (inr b) = omega (arith, a.1, b.1)
 
 pub below_trans : (p q r : Pair) → below p q ≡ true → below q r ≡ true → below p r ≡ true
 below_trans p q r a b = to_below p r (over p q r (is_below p q a) (is_below q r b))
@@ -59,30 +52,21 @@ not_below p q f d =
       ]
     ]
 
--- a pair that is below another isn't it
-other_below : (p q : Pair) → below p q ≡ true → same_pair q p ≡ false
-other_below p q e =
-    let F : Bool → Type 0 = λ b. same_pair q p ≡ b → b ≡ false in
-    let at : F (same_pair q p) = elim (same_pair q p) as F [
-      | true ↦ λ s. let both : ((q.spec == p.spec) ≡ true) × ((q.elem == p.elem) ≡ true) = and_parts (q.spec == p.spec) (q.elem == p.elem) s in
-          let x : q.spec ≡ p.spec = eqb-true q.spec p.spec both.0 in
-          let y : q.elem ≡ p.elem = eqb-true q.elem p.elem both.1 in
-          absurd (elim (is_below p q e) [ inl l ↦ omega (arith, l, x) | inr l ↦ omega (arith, l.1, y) ])
-      | false ↦ λ s. refl
-    ] in
+apart : (p q : Pair) → (p ≡ q → ⊥) → same_pair p q ≡ false
+apart p q n =
+    let F : Bool → Type 0 = λ b. same_pair p q ≡ b → b ≡ false in
+    let at : F (same_pair p q) = elim (same_pair p q) as F [ true ↦ λ s. absurd (n (same_pair-true p q s)) | false ↦ λ s. refl ] in
     at refl
 
+not_itself : (p : Pair) → below p p ≡ true → ⊥
+not_itself p e = elim (is_below p p e) [ inl l ↦ omega (arith, l) | inr l ↦ omega (arith, l.1) ]
+
+-- a pair that is below another isn't it, and neither is one that is above
+other_below : (p q : Pair) → below p q ≡ true → same_pair q p ≡ false
+other_below p q e = apart q p (λ s. not_itself p (subst (λ (x : Pair). below p x ≡ true) s e))
+
 other_above : (p q : Pair) → below q p ≡ true → same_pair q p ≡ false
-other_above p q e =
-    let F : Bool → Type 0 = λ b. same_pair q p ≡ b → b ≡ false in
-    let at : F (same_pair q p) = elim (same_pair q p) as F [
-      | true ↦ λ s. let both : ((q.spec == p.spec) ≡ true) × ((q.elem == p.elem) ≡ true) = and_parts (q.spec == p.spec) (q.elem == p.elem) s in
-          let x : q.spec ≡ p.spec = eqb-true q.spec p.spec both.0 in
-          let y : q.elem ≡ p.elem = eqb-true q.elem p.elem both.1 in
-          absurd (elim (is_below q p e) [ inl l ↦ omega (arith, l, x) | inr l ↦ omega (arith, l.1, y) ])
-      | false ↦ λ s. refl
-    ] in
-    at refl
+other_above p q e = apart q p (λ s. not_itself p (subst (λ (x : Pair). below x p ≡ true) s e))
 
 -- rows after a pair that isn't below p are not below it
 none_below : (p x : Pair) (rs : List Row) → below x p ≡ false → AreAfter x rs → list_any (λ r. below r.pair p) rs ≡ false

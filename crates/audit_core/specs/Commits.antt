@@ -47,14 +47,18 @@ pub record PreparedView : Type 0 where
   pub keys : List Key
   pub rows : List Row
 
--- It is what `prepare` makes of the core's present state, and the room for its entry and for its changes is there. This is so where
--- no step came between.
+-- It is what `prepare` makes of the core's present state, and the room for its entry and for its changes is there. This is so until an
+-- entry is added: see `PreparedStays`.
 pub record IsPreparedFor (core : CoreView) (p : PreparedView) : Type 0 where
   pub plan : IsPlan core.ground.specs core.ground.limits (last_change core.ground core.history) p.base (now_of core) p.edits p.next p.keys p.rows
   pub base_past : p.base ≤ revision core.history
   pub not_full : is_full core.ground core.history 1 ≡ false
   pub room : 1 ≤ core.spare
-  pub places : list_all (has_place core.shelf) p.keys ≡ true
+  pub places : list_all (has_place core.places) p.keys ≡ true
+
+-- What was prepared before a call that adds no entry can be finished after it.
+abbrev pub PreparedStays : Type 0
+PreparedStays = (old new : CoreView) (p : PreparedView) → IsPreparedFor old p → Unchanged old new → IsPreparedFor new p
 
 -- Why a draft wasn't prepared, and what stands then. The draft comes back.
 abbrev pub IsNotPrepared : CoreView → CoreView → ℕ → DraftView → NotPrepared → Type 0

@@ -6,12 +6,12 @@ use Rattle.audit_model.specs.History.{Ground, current, revision}
 use Rattle.model_view.specs.Views.{SnapshotView}
 
 -- `history` has the entries, the newest first. `spare` is the room of the journal for entries beside one for the end of each claim that is
--- out; `shelf` are the keys that have a place in the log of changes, each with its last change.
+-- out; `places` are the keys that have a place in the log of changes, each with its last change.
 pub record CoreView : Type 0 where
   pub ground : Ground
   pub history : List StepRec
   pub spare : ℕ
-  pub shelf : List (Key × ℕ)
+  pub places : List (Key × ℕ)
 
 -- the current model and revision
 abbrev pub now_in : Ground → List StepRec → SnapshotView

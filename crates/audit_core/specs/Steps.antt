@@ -1,5 +1,6 @@
 -- What a call of the core does to its history, and what its answers say.
-use Rattle.std.specs.Prelude.{◌≡◌, Bool, true, false, ℕ, ◌∷◌, None, Some}
+use Rattle.std.specs.Prelude.{◌≡◌, ◌≤◌, Bool, true, false, ℕ, ◌∷◌, None, Some}
+use Rattle.ifc_base.specs.declared.key.Key.{Key}
 use Rattle.audit_model.specs.declared.verdict.Pair.{Pair}
 use Rattle.audit_model.specs.declared.step.Given.{Given}
 use Rattle.audit_model.specs.declared.step.StepRec.{StepRec}
@@ -20,6 +21,7 @@ use Rattle.model_view.specs.declared.answers.Delivered.TheVariants as delivered
 use Rattle.model_view.specs.declared.answers.Published.{Published}
 use Rattle.model_view.specs.declared.answers.Published.TheVariants as published
 use Rattle.audit_core.specs.declared.board.Kept.{Kept}
+use Rattle.audit_core.specs.Changes.{has_place}
 use Rattle.audit_core.specs.Cores.{CoreView, now_of}
 use Rattle.audit_core.specs.Rows.{found}
 
@@ -29,10 +31,13 @@ pub record Adds (old new : CoreView) (e : StepRec) : Type 0 where
   pub history : new.history ≡ e ∷ old.history
   pub ground : new.ground ≡ old.ground
 
--- the call adds no entry
+-- The call adds no entry, and leaves the room that is kept for one: the journal has no less of it, and each key that had a place in the
+-- log of changes has one still.
 pub record Unchanged (old new : CoreView) : Type 0 where
   pub history : new.history ≡ old.history
   pub ground : new.ground ≡ old.ground
+  pub spare : old.spare ≤ new.spare
+  pub places : (k : Key) → has_place old.places k ≡ true → has_place new.places k ≡ true
 
 -- Why a call added no entry: there is no room for n more, or want of memory.
 abbrev pub IsHalted : CoreView → CoreView → ℕ → Halt → Type 0

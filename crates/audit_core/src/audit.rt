@@ -1,58 +1,29 @@
-ghost use Rattle.std.specs.Prelude.{◌≡◌, ◌≤◌, ◌<◌, ◌^◌, true, false, None, Some, [], length, reverse, find, IfOk, IfErr, OnOk};
-ghost use Rattle.std.specs.List.{list_all};
+ghost use Rattle.std.specs.Prelude.{◌≡◌, ◌≤◌, ◌<◌, ◌^◌, false, None, Some, [], length, reverse, find, IfOk, IfErr, OnOk};
 ghost use Rattle.audit_model.specs.Models.{HasDistinctIds, IsModel, model_of_file};
 ghost use Rattle.audit_model.specs.Pairs.{NumberedFrom};
-ghost use Rattle.audit_model.specs.Judging.{judge};
 ghost use Rattle.audit_model.specs.Scratch.{scratch};
-ghost use Rattle.audit_model.specs.History.{changed_since, current, last_change, revision};
+ghost use Rattle.audit_model.specs.History.{changed_since, current, last_change};
 ghost use Rattle.audit_model.specs.Machine.{is_full, least_claimable, least_unsettled, Legal, MayFollow, pairs_now};
-ghost use Rattle.audit_core.specs.Changes.{has_place};
 ghost use Rattle.audit_core.specs.Cores.{now_of};
-ghost use Rattle.audit_core.specs.Commits.{gives_full, IsNotPrepared, IsPlan, IsPlanned, IsPreparedFor};
-ghost use Rattle.audit_core.specs.Steps.{claim_told, delivery_told, publish_told, tells_full, Adds, IfGiven, IsAudit, IsClaimOf, IsHalted, IsOut, IsTrueFinding, IsUse, Unchanged};
+ghost use Rattle.audit_core.specs.Steps.{claim_told, delivery_told, publish_told, tells_full};
+ghost use Rattle.audit_core.specs.Steps.{Adds, IfGiven, IsAudit, IsClaimOf, IsHalted, IsOut, IsTrueFinding, IsUse, Unchanged};
+
+mod commit;
 
 use crate::board::{
     Kept, Row, back_to, empty_rows, first_unsettled, next_claimable, pair_at, place_of, settle,
 };
-use crate::carry::{carry, first_changed};
+use crate::carry::first_changed;
 use crate::changes::ChangeLog;
 use crate::claims::take_back;
 use crate::journal::CoreJournal;
-use crate::plan::{Planned, plan_commit};
 use crate::tallies::tally_all;
-use audit_model::{
-    Call, CommitRefusal, Edits, Given, Limits, Pair, Reply, Specification, StepRec, Tally,
-};
-use ifc_base::{Instances, Key, Keys, Memory, TryCopy};
-use model_view::{
-    Claim, Claimed, Delivered, Draft, Finding, Halt, NotPrepared, Published, Snapshot,
-};
+use audit_model::{Call, Given, Limits, Pair, Reply, Specification, StepRec, Tally};
+use ifc_base::{Instances, Key, Memory};
+use model_view::{Claim, Claimed, Delivered, Finding, Halt, Published, Snapshot};
 use report_text::render_report;
 use std::alloc::Global;
 use std::marker::Model;
-
-/// A commit that is accepted and not made yet. It may be dropped, which leaves the core as it is.
-#[derive(Drop)]
-pub struct Prepared {
-    actor: u32,
-    base: u32,
-    edits: Edits,
-    next: Snapshot,
-    keys: Keys,
-    rows: Vec<Row>,
-}
-
-impl Model for Prepared {
-    ghost use Rattle.std.specs.Coded.{codes};
-    ghost use Rattle.ifc_base.specs.contracts.value.Value as value;
-    ghost use Rattle.audit_core.specs.Commits.{PreparedView};
-
-    ghost Value = { PreparedView };
-
-    ghost coded = { Prim.hlevel (codes, value.the_row.coded) };
-
-    ghost view = { λ prepared. record { actor = prepared.actor; base = prepared.base; edits = prepared.edits; next = prepared.next; keys = prepared.keys; rows = prepared.rows.items } };
-}
 
 /// One model in numbered revisions, with the journal of all that was asked of it. Contracts see what
 /// stays the same - the specifications, the model of the file, the limits - and the history, the newest
@@ -85,11 +56,12 @@ impl<'a> Model for Core<'a> {
       ground = record { specs = core.specs.now; first = core.first.model; limits = core.limits };
       history = reverse core.journal.items;
       spare = vec_capacity core.journal - (length core.journal.items + length core.claims.items);
-      shelf = core.log;
+      places = core.log;
     } };
 
     ghost invariant = { λ core. IsKept (record { specs = core.specs.now; first = core.first.model; limits = core.limits })
-        (reverse core.journal.items) core.current core.board.items core.passed core.claims.items core.log core.number (vec_capacity core.journal) };
+        (reverse core.journal.items) core.current core.board.items core.passed core.claims.items core.log core.number
+        (vec_capacity core.journal) };
 }
 
 impl<'a> Core<'a> {
@@ -464,156 +436,5 @@ impl<'a> Core<'a> {
             reply: Reply::Report { revision },
         });
         Ok(Published::Report { revision, text })
-    }
-
-    /// What a commit of these edits, drafted on this revision, would make.
-    fn plan(&self, alloc: Global, base: u32, edits: &Edits) -> Result<Planned, Memory>
-        ensures { IfOk result (λ plan. IsPlanned self.now.ground.specs self.now.ground.limits
-            (last_change self.now.ground self.now.history) base (now_of self.now) edits.now plan) }
-    {
-        plan_commit(
-            alloc,
-            self.specs,
-            self.limits,
-            &self.log,
-            base,
-            &self.current,
-            edits,
-        )
-    }
-
-    /// Makes places for these keys in the log of changes.
-    fn make_places(&mut self, keys: &Keys) -> Result<(), Memory>
-        ensures same { Unchanged self.old self.new }
-        ensures spare { self.new.spare ≡ self.old.spare }
-        ensures placed { OnOk result (list_all (has_place self.new.shelf) keys.now ≡ true) }
-    {
-        self.log.make_places(keys.as_slice())
-    }
-
-    /// Adds the entry of a refused commit.
-    fn refuse(&mut self, alloc: Global, actor: u32, draft: Draft, why: CommitRefusal) -> NotPrepared
-        requires room { 1 ≤ self.old.spare }
-        requires not_full { is_full self.old.ground self.old.history 1 ≡ false }
-        requires base { draft.base.revision ≤ revision self.old.history }
-        requires refused { judge self.old.ground.limits (revision self.old.history)
-            (last_change self.old.ground self.old.history) draft.base.revision
-            (current self.old.ground self.old.history) draft.edits ≡ Some why }
-        ensures not_prepared { IsNotPrepared self.old self.new actor draft result }
-        ensures not_full { gives_full result ≡ false }
-    {
-        let Ok(edits) = draft.edits().copy(alloc) else {
-            return NotPrepared::Memory(draft);
-        };
-        let Ok(reason) = why.copy(alloc) else {
-            return NotPrepared::Memory(draft);
-        };
-        let base = draft.base().revision();
-        self.journal.push_reserved(StepRec {
-            actor,
-            call: Call::Commit { base, edits },
-            reply: Reply::Refused(reason),
-        });
-        NotPrepared::Refused(why, draft)
-    }
-
-    /// Judges a draft, and makes all that its commit needs. The draft's base has to be at most the
-    /// current revision. Where it is accepted the core is as before, and `finish` makes the commit. A
-    /// refused draft adds its entry and comes back; where the journal is full, or memory is wanting, the
-    /// draft comes back too and the core is as before. `O(s * n + r log n)` for `s` specifications, `n`
-    /// instances and their `r` references.
-    pub fn prepare(
-        &mut self,
-        alloc: Global,
-        actor: u32,
-        draft: Draft,
-    ) -> Result<Prepared, NotPrepared>
-        requires { draft.base.revision ≤ revision self.old.history }
-        ensures ok { IfOk result (λ prepared. IsPreparedFor self.new prepared) }
-        ensures actor { IfOk result (λ prepared. prepared.actor ≡ actor) }
-        ensures base { IfOk result (λ prepared. prepared.base ≡ draft.base.revision) }
-        ensures edits { IfOk result (λ prepared. prepared.edits ≡ draft.edits) }
-        ensures unchanged { OnOk result (Unchanged self.old self.new) }
-        ensures not_prepared { IfErr result (λ why. IsNotPrepared self.old self.new actor draft why) }
-        ensures full { IfErr result (λ why. is_full self.old.ground self.old.history 1 ≡ gives_full why) }
-    {
-        match self.make_room(1) {
-            Ok(()) => {}
-            Err(Halt::Full) => return Err(NotPrepared::Full(draft)),
-            Err(Halt::Memory) => return Err(NotPrepared::Memory(draft)),
-        }
-        match self.plan(alloc, draft.base().revision(), draft.edits()) {
-            Err(_) => Err(NotPrepared::Memory(draft)),
-            Ok(Planned::Refused(why)) => Err(self.refuse(alloc, actor, draft, why)),
-            Ok(Planned::Next(next, keys, rows)) => self.reserve(actor, draft, next, keys, rows),
-        }
-    }
-
-    /// Makes places for the changes of a planned commit.
-    fn reserve(
-        &mut self,
-        actor: u32,
-        draft: Draft,
-        next: Snapshot,
-        keys: Keys,
-        rows: Vec<Row>,
-    ) -> Result<Prepared, NotPrepared>
-        requires room { 1 ≤ self.old.spare }
-        requires not_full { is_full self.old.ground self.old.history 1 ≡ false }
-        requires base { draft.base.revision ≤ revision self.old.history }
-        requires plan { IsPlan self.old.ground.specs self.old.ground.limits
-            (last_change self.old.ground self.old.history) draft.base.revision
-            (now_of self.old) draft.edits next keys rows.items }
-        ensures ok { IfOk result (λ prepared. IsPreparedFor self.new prepared) }
-        ensures actor { IfOk result (λ prepared. prepared.actor ≡ actor) }
-        ensures base { IfOk result (λ prepared. prepared.base ≡ draft.base.revision) }
-        ensures edits { IfOk result (λ prepared. prepared.edits ≡ draft.edits) }
-        ensures unchanged { OnOk result (Unchanged self.old self.new) }
-        ensures not_prepared { IfErr result (λ why. IsNotPrepared self.old self.new actor draft why) }
-        ensures not_full { IfErr result (λ why. gives_full why ≡ false) }
-    {
-        if self.make_places(&keys).is_err() {
-            return Err(NotPrepared::Memory(draft));
-        }
-        let (base, edits) = draft.into_parts();
-        Ok(Prepared {
-            actor,
-            base: base.revision(),
-            edits,
-            next,
-            keys,
-            rows,
-        })
-    }
-
-    /// Makes a prepared commit, and answers its revision. It asks that no step came since it was
-    /// prepared. It takes no memory and always succeeds. `O(n log n)` in the number of pairs, for those
-    /// that stay settled.
-    pub fn finish(&mut self, prepared: Prepared) -> u32
-        requires { IsPreparedFor self.old prepared }
-        ensures { Adds self.old self.new
-            (record { actor = prepared.actor; call = Call.Commit prepared.base prepared.edits; reply = Reply.Accepted result }) }
-    {
-        let Prepared {
-            actor,
-            base,
-            edits,
-            next,
-            keys,
-            rows,
-        } = prepared;
-        let since = self.current.revision();
-        let revision = next.revision();
-        self.log.note(keys.as_slice(), revision);
-        let olds = std::mem::replace(&mut self.board, rows);
-        carry(&mut self.board, &self.log, since, olds);
-        self.passed = 0;
-        self.current = next;
-        self.journal.push_reserved(StepRec {
-            actor,
-            call: Call::Commit { base, edits },
-            reply: Reply::Accepted { revision },
-        });
-        revision
     }
 }

@@ -58,6 +58,7 @@ impl ChangeLog {
     /// Makes places for the keys, so that their changes can be noted without memory.
     pub fn make_places(&mut self, keys: &[Key]) -> Result<(), Memory>
         ensures same { (k : Key) → last_in self.new k ≡ last_in self.old k }
+        ensures keeps { (k : Key) → has_place self.old k ≡ true → has_place self.new k ≡ true }
         ensures placed { OnOk result (list_all (has_place self.new) keys.now ≡ true) }
     {
         for key in keys {

@@ -2,9 +2,9 @@ ghost use Rattle.std.specs.Prelude.{◌≡◌, ◌==◌, IfOk, OnOk, if◌then�
 ghost use Rattle.ifc_base.specs.declared.value.Instance.{Instance};
 ghost use Rattle.audit_model.specs.Models.{IsModel};
 ghost use Rattle.audit_model.specs.Edits.{edit_id};
-ghost use Rattle.audit_model.specs.Judging.{judge_from};
+ghost use Rattle.audit_model.specs.Judging.{fault_given, judge_from, room_fault_given};
 ghost use Rattle.audit_core.specs.Changes.{last_in};
-ghost use Rattle.audit_core.specs.Judged.{count_after, fault_given, present_after, present_in, room_fault_given};
+ghost use Rattle.audit_core.specs.Judged.{count_after, present_after, present_in};
 
 use crate::changes::ChangeLog;
 use crate::presence::is_there;

@@ -12,9 +12,13 @@ mod claims;
 mod dangling;
 mod journal;
 mod judge;
+mod laws;
 mod plan;
+mod prepared;
 mod presence;
 mod tallies;
 
-pub use audit::{Core, Prepared};
+pub use audit::Core;
 pub use journal::CoreJournal;
+pub use laws::prepared_stays;
+pub use prepared::Prepared;

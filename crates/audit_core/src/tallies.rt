@@ -1,7 +1,8 @@
 ghost use Rattle.std.specs.Prelude.{◌≡◌, ◌+◌, ◌<◌, ◌≤◌, ◌++◌, [], length, IfOk, OnOk};
 ghost use Rattle.std.specs.Option.{option_to_list};
 ghost use Rattle.audit_model.specs.Scratch.{failing_of, tally_from};
-ghost use Rattle.audit_core.specs.Tallying.{fails, row_verdict, row_verdicts, run_length, tallies_of, tally_more, tally_of, AreFew};
+ghost use Rattle.audit_core.specs.Tallying.{fails, row_verdict, row_verdicts, run_length, AreFew};
+ghost use Rattle.audit_core.specs.Tallying.{tallies_of, tally_more, tally_of};
 
 use crate::board::Row;
 use audit_model::{Failing, Failings, Occurs, Specification, Tally, Verdict};

@@ -1,5 +1,5 @@
 -- The pairs of a model are apart from each other.
-use Rattle.std.proofs.Common.{◌≡◌, ℕ, ◌+◌, ◌<◌, Bool, true, false, ◌||◌, ◌==◌, cond, List, [], ◌∷◌, ◌++◌, map, filter, refl, arith, sym, subst}
+use Rattle.std.proofs.Common.{◌≡◌, ℕ, ◌+◌, ◌<◌, Bool, true, false, ◌==◌, cond, List, [], ◌∷◌, ◌++◌, map, filter, refl, arith, sym, subst}
 use Rattle.std.specs.List.{list_any}
 use Rattle.std.proofs.lemmas.Bool.{and_parts, eqb-true, ne_eqb, and_right}
 use Rattle.std.proofs.lemmas.List.Folds.{list_any-append}
@@ -9,10 +9,6 @@ use Rattle.audit_model.specs.declared.specification.Specification.{Specification
 use Rattle.audit_model.specs.Models.{IsModel, AllAbove}
 use Rattle.audit_model.specs.Pairs.{same_pair, pairs, NumberedFrom}
 use Rattle.audit_model.proofs.PairLists.{makes, pair_with, made_of, all_made, pairs_made}
-
-pub or_parts : (a b : Bool) → (a || b) ≡ false → (a ≡ false) × (b ≡ false)
-or_parts true b e = absurd (cc)
-or_parts false b e = (refl, e)
 
 pub same_pair-true : (p q : Pair) → same_pair p q ≡ true → p ≡ q
 same_pair-true p q e =

@@ -1,7 +1,7 @@
 -- A drain claims the unsettled pairs in their order, uses each finding, and reports.
 use Rattle.std.proofs.Common.{◌≡◌, ℕ, ◌+◌, ◌≤◌, suc, Bool, true, false, not, ◌&&◌, ◌||◌, cond, nat_lt, if◌then◌else◌, List, [], ◌∷◌, ◌++◌, find, filter, reverse, length, Option, Some, None, arith, refl, ap, sym, subst, ◌∙◌}
 use Rattle.std.specs.List.{list_any, list_all, cons_option}
-use Rattle.std.proofs.lemmas.Bool.{eq-eqb, le-ltb}
+use Rattle.std.proofs.lemmas.Bool.{eq-eqb, le-ltb, or_parts}
 use Rattle.std.proofs.lemmas.List.{append-nil, append_assoc, reverse-append}
 use Rattle.std.proofs.lemmas.List.Folds.{list_any-append}
 use Rattle.std.proofs.lemmas.List.Sums.{sum_by-cons}
@@ -22,7 +22,7 @@ use Rattle.audit_model.specs.History.{Ground, pairs_in, model_after, model_of, m
 use Rattle.audit_model.specs.Machine.{MayFollow, Legal, pairs_now, least_unsettled, least_claimable, claimed, claim_reply, delivered, deliver_reply, published, publish_reply}
 use Rattle.audit_model.specs.Drain.{caller_entry, IsDrain, stops, goes_on, drain_from, drain, unsettled, drain_after, DrainFollows, DrainOfFile}
 use Rattle.audit_model.proofs.Tests.{Each, Each-weaker, or_true}
-use Rattle.audit_model.proofs.Apart.{AreApart, or_parts, apart_pairs}
+use Rattle.audit_model.proofs.Apart.{AreApart, apart_pairs}
 use Rattle.audit_model.proofs.Claims.{same_pair-refl}
 use Rattle.audit_model.proofs.HistoryLaws.{one_reply, all_models, newest_model}
 

@@ -1,13 +1,10 @@
--- What accepted edits keep, and which keys they change.
-use Rattle.std.proofs.Common.{◌≡◌, ℕ, ◌+◌, ◌<◌, ◌≤◌, Bool, true, false, not, ◌&&◌, ◌||◌, ◌==◌, cond, if◌then◌else◌, nat_lt, List, [], ◌∷◌, filter, Option, Some, None, refl, arith, ap, sym, ◌∙◌}
-use Rattle.std.specs.List.{list_any, cons_option}
+-- What accepted edits keep.
+use Rattle.std.proofs.Common.{◌≡◌, ℕ, ◌+◌, ◌<◌, ◌≤◌, Bool, true, false, not, ◌||◌, ◌==◌, cond, if◌then◌else◌, nat_lt, List, [], ◌∷◌, filter, Option, Some, None, refl, arith, ap, sym, ◌∙◌}
+use Rattle.std.specs.List.{list_any}
 use Rattle.std.specs.Option.{option_or}
-use Rattle.std.proofs.lemmas.Bool.{eqb-true, eqb-false, ne_eqb, ltb-true, ltb-false, and_right, false≢true}
+use Rattle.std.proofs.lemmas.Bool.{eqb-true, eqb-false, ltb-true, ltb-false, false≢true}
 use Rattle.ifc_base.specs.declared.value.Instance.{Instance}
 use Rattle.ifc_base.specs.declared.key.Key.{Key}
-use Rattle.ifc_base.specs.declared.key.Key.TheVariants.{Inst, Refs}
-use Rattle.ifc_base.specs.declared.key.Role.{Role}
-use Rattle.ifc_base.specs.KeyOrder.{key_eq, role_rank}
 use Rattle.audit_model.specs.declared.commit.Edit.{Edit}
 use Rattle.audit_model.specs.declared.commit.Edit.TheVariants.{Add, Set, Remove}
 use Rattle.audit_model.specs.declared.commit.EditFault.{EditFault}
@@ -16,10 +13,7 @@ use Rattle.audit_model.specs.declared.commit.CommitRefusal.TheVariants.{Revision
 use Rattle.audit_model.specs.declared.step.Limits.{Limits}
 use Rattle.audit_model.specs.Models.{IsModel, AllAbove, instance_at, is_present, with_instance}
 use Rattle.audit_model.specs.Edits.{without_instance, edited, apply, edit_id}
-use Rattle.audit_model.specs.Keys.{changes, changed_keys}
 use Rattle.audit_model.specs.Judging.{judge, judge_from, fault_of, refused_or, conflict_of, id_fault_of, dangling}
-use Rattle.audit_model.proofs.Tests.{with_one, without_one}
-use Rattle.audit_model.proofs.Frame.{same_place-refl}
 
 -- The model stays ascending.
 
@@ -135,53 +129,3 @@ untouched i m (e ∷ es) h =
       | false ↦ λ f k. untouched i (edited m e) es k ∙ at_edited i m e f
     ] in
     at refl h
-
--- The keys that a commit changes are among those of its edits.
-
-and_true : (a : Bool) → (a && true) ≡ a
-and_true true = refl
-and_true false = refl
-
-same_inst : (i j : ℕ) → key_eq (Inst i) (Inst j) ≡ (i == j)
-same_inst i j = and_true (i == j)
-
-keys_touched : (m n : List Instance) (i : ℕ) (es : List Edit) → list_any (λ k. key_eq k (Inst i)) (changed_keys m n es) ≡ (list_any (λ e. edit_id e == i) es && changes m n (Inst i))
-keys_touched m n i [] = refl
-keys_touched m n i (e ∷ es) =
-    let F : Bool → Type 0 = λ b. changes m n (Inst (edit_id e)) ≡ b → list_any (λ k. key_eq k (Inst i)) (cons_option (if b then Some (Inst (edit_id e)) else None) (changed_keys m n es)) ≡ ((edit_id e == i || list_any (λ x. edit_id x == i) es) && changes m n (Inst i)) in
-    let at : F (changes m n (Inst (edit_id e))) = elim (changes m n (Inst (edit_id e))) as F [
-      | true ↦ λ f. (λ t. same_inst (edit_id e) i t || keys_touched m n i es t) ∙ with_one (edit_id e == i) (list_any (λ x. edit_id x == i) es) (changes m n (Inst i)) (λ s. rw (← eqb-true (edit_id e) i s) f)
-      | false ↦ λ f. keys_touched m n i es ∙ without_one (edit_id e == i) (list_any (λ x. edit_id x == i) es) (changes m n (Inst i)) (λ s. rw (← eqb-true (edit_id e) i s) f)
-    ] in
-    at refl
-
-other_key : (i j : ℕ) (role : Role) → key_eq (Inst i) (Refs j role) ≡ false
-other_key i j role = and_right (i == j) (0 == (role_rank role + 1)) (ne_eqb 0 (role_rank role + 1) (λ e. absurd (omega (arith, e))))
-
-no_refs : (m n : List Instance) (i : ℕ) (role : Role) (es : List Edit) → list_any (λ k. key_eq k (Refs i role)) (changed_keys m n es) ≡ false
-no_refs m n i role [] = refl
-no_refs m n i role (e ∷ es) =
-    let F : Bool → Type 0 = λ b. list_any (λ k. key_eq k (Refs i role)) (cons_option (if b then Some (Inst (edit_id e)) else None) (changed_keys m n es)) ≡ false in
-    elim (changes m n (Inst (edit_id e))) as F [
-      | true ↦ λ t. other_key (edit_id e) i role t || no_refs m n i role es t
-      | false ↦ no_refs m n i role es
-    ]
-
-unchanged_at : (m n : List Instance) (i : ℕ) → instance_at i n ≡ instance_at i m → changes m n (Inst i) ≡ false
-unfolding changes
-unchanged_at m n i e = rw (e, same_place-refl (instance_at i m))
-
-unchanged_refs : (m n : List Instance) (i : ℕ) (role : Role) → changes m n (Refs i role) ≡ false
-unfolding changes
-unchanged_refs m n i role = refl
-
--- the keys of the edits that differ are all that the commit changes
-pub changed_keys_are : (m : List Instance) (es : List Edit) (k : Key) → list_any (λ j. key_eq j k) (changed_keys m (apply m es) es) ≡ changes m (apply m es) k
-changed_keys_are m es (Refs i role) = no_refs m (apply m es) i role es ∙ sym (unchanged_refs m (apply m es) i role)
-changed_keys_are m es (Inst i) =
-    let F : Bool → Type 0 = λ b. list_any (λ e. edit_id e == i) es ≡ b → (b && changes m (apply m es) (Inst i)) ≡ changes m (apply m es) (Inst i) in
-    let at : F (list_any (λ e. edit_id e == i) es) = elim (list_any (λ e. edit_id e == i) es) as F [
-      | true ↦ λ f. refl
-      | false ↦ λ f. sym (unchanged_at m (apply m es) i (untouched i m es f))
-    ] in
-    keys_touched m (apply m es) i es ∙ at refl

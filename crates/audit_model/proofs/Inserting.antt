@@ -1,10 +1,9 @@
 -- An instance put at its place; edits one at a time.
-use Rattle.std.proofs.Common.{◌≡◌, ℕ, ◌+◌, ◌<◌, ◌≤◌, suc, Bool, true, false, not, cond, if◌then◌else◌, nat_lt, List, [], ◌∷◌, ◌++◌, length, take, drop, get_or, insert, Some, None, refl, arith, ap, sym, ◌∙◌}
-use Rattle.std.specs.List.{position, position_or_len, cons_option}
+use Rattle.std.proofs.Common.{◌≡◌, ℕ, ◌+◌, ◌<◌, ◌≤◌, suc, Bool, true, false, not, cond, if◌then◌else◌, nat_lt, List, [], ◌∷◌, ◌++◌, length, drop, get_or, insert, Some, None, refl, arith, ap, sym, ◌∙◌}
+use Rattle.std.specs.List.{position, position_or_len}
 use Rattle.std.specs.Option.{option_or}
 use Rattle.std.proofs.lemmas.Bool.{ltb-true, ltb-false, le-ltb}
-use Rattle.std.proofs.lemmas.List.{take_all, drop_all, take_more, at_drop_more}
-use Rattle.std.proofs.lemmas.List.Elements.{filter_map-append}
+use Rattle.std.proofs.lemmas.List.{take_all, drop_all, at_drop_more}
 use Rattle.ifc_base.specs.declared.value.Instance.{Instance}
 use Rattle.ifc_base.specs.declared.key.Key.{Key}
 use Rattle.ifc_base.specs.declared.key.Key.TheVariants.{Inst}
@@ -13,7 +12,6 @@ use Rattle.audit_model.specs.declared.commit.CommitRefusal.TheVariants.{Revision
 use Rattle.audit_model.specs.declared.step.Limits.{Limits}
 use Rattle.audit_model.specs.Models.{with_instance}
 use Rattle.audit_model.specs.Edits.{edited, apply, edit_id}
-use Rattle.audit_model.specs.Keys.{changes, changed_key, changed_keys}
 use Rattle.audit_model.specs.Judging.{judge, judge_from, fault_of, refused_or, conflict_of, dangling}
 
 abbrev pub above : Instance → Instance → Bool
@@ -49,15 +47,6 @@ insert_none x m e =
           rw (insert_at x m, take_all (position_or_len (above x) m) m le, drop_all (position_or_len (above x) m) m le)
     ] in
     at refl e
-
--- one more edit's key
-one_key : (b : Bool) (k : Key) → cons_option (if b then Some k else None) [] ≡ (if b then k ∷ [] else [])
-one_key true k = refl
-one_key false k = refl
-
-pub keys_more : (m n : List Instance) (es : List Edit) (i : ℕ) (e : Edit) → i < length es → e ≡ get_or es i e → changed_keys m n (take (i + 1) es) ≡ changed_keys m n (take i es) ++ (if changes m n (Inst (edit_id e)) then Inst (edit_id e) ∷ [] else [])
-keys_more m n es i e l at =
-    rw (take_more es i e l, ← at, filter_map-append (changed_key m n) (take i es) (e ∷ []), one_key (changes m n (Inst (edit_id e))) (Inst (edit_id e)))
 
 -- judging from one edit on
 pub judge_next : (limits : Limits) (last : Key → ℕ) (base n : ℕ) (m : List Instance) (es : List Edit) (i : ℕ) (e : Edit) → i < length es → e ≡ get_or es i e → judge_from limits last base n m (drop i es) ≡ refused_or (fault_of limits last base m e) n (judge_from limits last base (n + 1) (edited m e) (drop (i + 1) es))

@@ -1,5 +1,5 @@
 -- The output of a history with the lines of one editor, told entry by entry.
-use Rattle.std.proofs.Common.{◌≡◌, ℕ, zero, suc, ◌<◌, ◌≤◌, Bool, true, false, cond, ◌&&◌, nat_le, ◌==◌, List, [], ◌∷◌, ◌++◌, filter, flat_map, reverse, length, codes, Option, Some, None, arith, refl, ap, sym, subst, ◌∙◌}
+use Rattle.std.proofs.Common.{◌≡◌, ℕ, zero, suc, ◌<◌, ◌≤◌, Bool, true, false, cond, nat_le, ◌==◌, List, [], ◌∷◌, ◌++◌, filter, flat_map, reverse, codes, Option, Some, None, arith, refl, ap, sym, subst, ◌∙◌}
 use Rattle.std.specs.Fmt.{decimal}
 use Rattle.std.proofs.lemmas.Bool.{and_parts, eqb-true, ne_eqb, leb-true}
 use Rattle.std.proofs.lemmas.Grind.{flat_map-append}
@@ -12,9 +12,9 @@ use Rattle.audit_model.specs.declared.step.Call.{Call}
 use Rattle.audit_model.specs.declared.step.Call.TheVariants.{Begin, Commit, Claim, Deliver, GiveBack, Publish}
 use Rattle.audit_model.specs.declared.step.Reply.{Reply}
 use Rattle.audit_model.specs.declared.step.Reply.TheVariants.{Began, Accepted, Refused, Claimed, Idle, Used, Stale, Back, Pending, Report}
-use Rattle.audit_model.specs.History.{Ground, model_at, revision}
+use Rattle.audit_model.specs.History.{Ground, revision}
 use Rattle.audit_model.specs.Machine.{Answers, MayFollow, Legal, committed, claimed, delivered, published}
-use Rattle.audit_model.specs.Output.{entry_text, reply_text, editor_text, editors, ends_phase, is_report, report_in, phase_text, with_entry, whole_phases, output}
+use Rattle.audit_model.specs.Output.{entry_text, reply_text, editor_text, ends_phase, is_report, report_in, phase_text, with_entry, whole_phases}
 use Rattle.audit_model.specs.Report.{audit_text, line}
 use Rattle.audit_model.specs.Telling.{Told, told, told_more, is_of_one_editor}
 use Rattle.audit_model.specs.RunLaws.{OutputIsTold}

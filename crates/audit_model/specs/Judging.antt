@@ -23,11 +23,14 @@ use Rattle.audit_model.specs.Edits.{edit_id, edited, apply}
 abbrev pub conflict_of : (Key → ℕ) → ℕ → Edit → Option EditFault
 conflict_of last base e = if nat_lt base (last (Inst (edit_id e))) then Some (Conflict (edit_id e) (last (Inst (edit_id e)))) else None
 
--- the id to add is there, or there is no instance of the id to set or remove
+-- The id to add is there, or there is no instance of the id to set or remove; by whether an instance of the edit's id is there.
+abbrev pub id_fault_given : Bool → Edit → Option EditFault
+id_fault_given present (Add x) = if present then Some (IdTaken x.id) else None
+id_fault_given present (Set id attr value) = if present then None else Some (NoInstance id)
+id_fault_given present (Remove id) = if present then None else Some (NoInstance id)
+
 abbrev pub id_fault_of : List Instance → Edit → Option EditFault
-id_fault_of m (Add x) = if is_present x.id m then Some (IdTaken x.id) else None
-id_fault_of m (Set id attr value) = if is_present id m then None else Some (NoInstance id)
-id_fault_of m (Remove id) = if is_present id m then None else Some (NoInstance id)
+id_fault_of m e = id_fault_given (is_present (edit_id e) m) e
 
 -- The entity has no attribute of this name. Declarations say which attributes an entity has; without them it has none.
 abbrev pub attribute_fault_of : Edit → Option EditFault
@@ -35,15 +38,22 @@ attribute_fault_of (Add x) = None
 attribute_fault_of (Set id attr value) = Some (NoAttribute id attr)
 attribute_fault_of (Remove id) = None
 
--- the model has as many instances as its limit allows
+-- One more instance would be more than the limit allows; by how many there are.
+abbrev pub room_fault_given : Limits → ℕ → Edit → Option EditFault
+room_fault_given limits count (Add x) = if nat_lt count limits.instances then None else Some TooManyInstances
+room_fault_given limits count (Set id attr value) = None
+room_fault_given limits count (Remove id) = None
+
 abbrev pub room_fault_of : Limits → List Instance → Edit → Option EditFault
-room_fault_of limits m (Add x) = if nat_lt (length m) limits.instances then None else Some TooManyInstances
-room_fault_of limits m (Set id attr value) = None
-room_fault_of limits m (Remove id) = None
+room_fault_of limits m e = room_fault_given limits (length m) e
+
+-- the edit's fault, by whether an instance of its id is there and by how many instances there are
+abbrev pub fault_given : Limits → (Key → ℕ) → ℕ → Bool → ℕ → Edit → Option EditFault
+fault_given limits last base present count e =
+    option_or (conflict_of last base e) (option_or (id_fault_given present e) (option_or (attribute_fault_of e) (room_fault_given limits count e)))
 
 abbrev pub fault_of : Limits → (Key → ℕ) → ℕ → List Instance → Edit → Option EditFault
-fault_of limits last base m e =
-    option_or (conflict_of last base e) (option_or (id_fault_of m e) (option_or (attribute_fault_of e) (room_fault_of limits m e)))
+fault_of limits last base m e = fault_given limits last base (is_present (edit_id e) m) (length m) e
 
 -- Edit by edit.
 

@@ -1,14 +1,12 @@
 -- Keys, which are the parts of a model that a verdict can need, and what a commit changes of them. The content of `Inst id` is the
 -- instance with that id, or none; the content of `Refs id role` is the instances that relate to that id in the role.
-use Rattle.std.specs.Prelude.{Bool, true, false, not, List, Option, Some, None, filter_map, if◌then◌else◌}
+use Rattle.std.specs.Prelude.{Bool, true, false, not, List, Option, Some, None}
 use Rattle.std.specs.List.{list_all}
 use Rattle.ifc_base.specs.declared.value.Instance.{Instance}
 use Rattle.ifc_base.specs.declared.key.Key.{Key}
 use Rattle.ifc_base.specs.declared.key.Key.TheVariants.{Inst, Refs}
 use Rattle.ifc_base.specs.Same.{instance_eq}
-use Rattle.audit_model.specs.declared.commit.Edit.{Edit}
 use Rattle.audit_model.specs.Models.{instance_at}
-use Rattle.audit_model.specs.Edits.{edit_id}
 
 -- the same instance stands at two places, or none at both
 abbrev pub same_place : Option Instance → Option Instance → Bool
@@ -26,11 +24,3 @@ changes m n (Refs id role) = false
 -- the commit from m to n changes none of these keys
 abbrev pub keeps_all : List Instance → List Instance → List Key → Bool
 keeps_all m n ks = list_all (λ k. not (changes m n k)) ks
-
-abbrev pub changed_key : List Instance → List Instance → Edit → Option Key
-changed_key m n e = if changes m n (Inst (edit_id e)) then Some (Inst (edit_id e)) else None
-
--- The keys that the commit of these edits, from m to n, changes: those that name the id of an edit and whose content differs. An
--- instance that is removed and added again as it was isn't changed.
-abbrev pub changed_keys : List Instance → List Instance → List Edit → List Key
-changed_keys m n es = filter_map (changed_key m n) es

@@ -1,6 +1,6 @@
 -- The text of a history as it grows, entry by entry: that of its whole phases, and the lines of the phase that goes on. Histories
 -- stand here with the newest entry first. One editor makes the lines, so they come in the order of the entries.
-use Rattle.std.specs.Prelude.{ℕ, Bool, true, false, ◌==◌, nat_le, List, [], ◌∷◌, ◌++◌, if◌then◌else◌}
+use Rattle.std.specs.Prelude.{ℕ, Bool, ◌==◌, nat_le, List, [], ◌∷◌, ◌++◌, if◌then◌else◌}
 use Rattle.std.specs.List.{list_all}
 use Rattle.audit_model.specs.declared.step.StepRec.{StepRec}
 use Rattle.audit_model.specs.History.{Ground}

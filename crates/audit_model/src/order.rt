@@ -2,12 +2,11 @@ ghost use Rattle.std.specs.Prelude.{◌≡◌, IfOk, length};
 ghost use Rattle.audit_model.specs.Models.{HasDistinctIds, IsModel, model_of_file};
 
 use ifc_base::{Instances, Memory};
-use std::alloc::Global;
 
 /// The model of a file: its instances in ascending id. The ids have to be distinct. For want of memory
 /// the instances are dropped.
 /// `O(n log n)` in their number, and `O(n)` where they ascend already.
-pub fn in_order(alloc: Global, instances: Instances) -> Result<Instances, Memory>
+pub fn in_order(instances: Instances) -> Result<Instances, Memory>
     requires { HasDistinctIds instances }
     ensures value { IfOk result (λ model. model ≡ model_of_file instances) }
     ensures ascending { IfOk result IsModel }

@@ -1,5 +1,5 @@
 -- Calls that are played, one at a time.
-use Rattle.std.proofs.Common.{◌≡◌, ℕ, true, ◌==◌, List, [], ◌∷◌, ◌++◌, Some, refl, sym, subst, ◌∙◌, inl, inr}
+use Rattle.std.proofs.Common.{◌≡◌, ℕ, true, ◌==◌, List, [], ◌∷◌, ◌++◌, Some, refl, arith, sym, subst, ◌∙◌, inl, inr}
 use Rattle.std.proofs.lemmas.Bool.{and_from, eq-eqb}
 use Rattle.std.proofs.lemmas.List.{append-nil, append_assoc}
 use Rattle.audit_model.specs.declared.commit.Edit.{Edit}
@@ -178,7 +178,7 @@ play_more {old = old} {mid = mid} {new = new} {calls = calls} {asked = asked} {t
 -- Small steps.
 
 pub unchanged_self : (core : CoreView) → Unchanged core core
-unchanged_self core = record { history = refl; ground = refl }
+unchanged_self core = record { history = refl; ground = refl; spare = omega arith; places = λ k h. h }
 
 pub adds_on : {a b c : CoreView} {e : StepRec} → Unchanged a b → Adds b c e → Adds a c e
 adds_on u s = record {

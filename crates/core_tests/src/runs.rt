@@ -63,23 +63,24 @@ fn claimed(number: u64, elem: InstId, revision: u32) -> Reply {
     }
 }
 
+/// The reply to a publish while the pair of this element is unsettled.
+fn pending(elem: InstId) -> Reply {
+    Reply::Pending(Pair { spec: 1, elem })
+}
+
+/// The refusal of a commit whose first edit is to remove this instance, which isn't there.
+fn no_instance(id: InstId) -> Reply {
+    let fault = EditFault::NoInstance { id };
+    Reply::Refused(CommitRefusal::Edit { number: 1, fault })
+}
+
 /// Each actor with what it was answered. The two walls are `ten` and `eleven`.
 fn answers(alloc: Global, ten: InstId, eleven: InstId) -> Result<Vec<(u32, Reply)>, Memory> {
     let new = InstId::new(12).ok_or(Memory)?;
-    let missing = EditFault::NoInstance {
-        id: InstId::new(13).ok_or(Memory)?,
-    };
-    let refusal = CommitRefusal::Edit {
-        number: 1,
-        fault: missing,
-    };
+    let missing = InstId::new(13).ok_or(Memory)?;
     let stale = Reply::Stale {
         key: Key::Inst(ten),
         revision: 1,
-    };
-    let pair = Pair {
-        spec: 1,
-        elem: eleven,
     };
     Ok(vec![in alloc;
         (17, claimed(1, ten, 0)),
@@ -89,10 +90,10 @@ fn answers(alloc: Global, ten: InstId, eleven: InstId) -> Result<Vec<(u32, Reply
         (17, claimed(2, ten, 1)),
         (18, claimed(3, eleven, 1)),
         (17, Reply::Used),
-        (0, Reply::Pending(pair)),
+        (0, pending(eleven)),
         (18, Reply::Back),
         (2, Reply::Began { revision: 1 }),
-        (2, Reply::Refused(refusal)),
+        (2, no_instance(missing)),
         (18, claimed(4, eleven, 1)),
         (18, Reply::Used),
         (18, Reply::Idle),

@@ -2,7 +2,7 @@ ghost use Rattle.std.specs.Prelude.{◌≡◌};
 ghost use Rattle.audit_core.specs.Steps.{IsOut};
 
 use crate::fixtures::{wall, wall_specifications, walls};
-use audit_core::{Core, CoreJournal};
+use audit_core::{Core, CoreJournal, prepared_stays};
 use audit_model::{CommitRefusal, Edit, EditFault, Limits};
 use ifc_base::{InstId, Memory};
 use model_view::{Claim, Claimed, Draft, Halt, NotPrepared, Published};
@@ -112,6 +112,42 @@ fn commit(
         Err(NotPrepared::Refused(why, _)) => Ok(Err(why)),
         Err(_) => Err(Memory),
     }
+}
+
+/// Prepares the commit of this edit, and makes it after a claim for which there is no room: the
+/// revision that it makes.
+fn finish_after_full(alloc: Global, core: &mut Core, edit: Edit) -> Result<Option<u32>, Memory> {
+    let Ok(base) = core.begin(1) else {
+        return Err(Memory);
+    };
+    let mut draft = Draft::new(alloc, base);
+    draft.push(edit).map_err(|back| back.0)?;
+    let Ok(prepared) = core.prepare(alloc, 1, draft) else {
+        return Ok(None);
+    };
+    match core.claim(17) {
+        Err(Halt::Full) => {
+            prepared_stays();
+            Ok(Some(core.finish(prepared)))
+        }
+        Err(Halt::Memory) => Err(Memory),
+        Ok(Claimed::Idle) => Ok(None),
+        Ok(Claimed::Pair(claim)) => {
+            claim.end();
+            Ok(None)
+        }
+    }
+}
+
+#[test]
+fn a_prepared_commit_outlasts_a_full_claim(rt: HostRuntime) -> Result<(), Fail> {
+    let edit = Edit::Remove(InstId::new(10).ok_or(Memory)?);
+    let specs = wall_specifications(rt.alloc())?;
+    let mut core = Core::new(rt.alloc(), &specs, walls(rt.alloc())?, limits(2))?;
+    assert_eq!(rt; finish_after_full(rt.alloc(), &mut core, edit), Ok(Some(1)));
+    let journal = core.into_journal();
+    assert_eq!(rt; journal.steps().as_slice().len(), 2);
+    Ok(())
 }
 
 /// The refusal of the first edit of a commit.

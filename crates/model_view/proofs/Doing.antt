@@ -1,5 +1,5 @@
 -- Edits that are accepted at a model, one at a time.
-use Rattle.std.proofs.Common.{◌≡◌, ℕ, ◌+◌, ◌<◌, Bool, true, false, if◌then◌else◌, List, [], ◌∷◌, length, drop, get_or, filter, cond, Option, Some, None, refl, ap, sym, subst, ◌∙◌}
+use Rattle.std.proofs.Common.{◌≡◌, ℕ, ◌+◌, ◌<◌, Bool, true, false, if◌then◌else◌, List, [], ◌∷◌, length, drop, get_or, filter, cond, Some, None, refl}
 use Rattle.std.proofs.lemmas.List.{drop_more}
 use Rattle.ifc_base.specs.declared.value.Instance.{Instance}
 use Rattle.audit_model.specs.declared.commit.Edit.{Edit}
@@ -7,7 +7,7 @@ use Rattle.audit_model.specs.declared.commit.Edit.TheVariants.{Add, Set, Remove}
 use Rattle.audit_model.specs.declared.commit.EditFault.TheVariants.{IdTaken, NoInstance}
 use Rattle.audit_model.specs.Models.{AllAbove, IsModel, is_present}
 use Rattle.audit_model.specs.Edits.{edited}
-use Rattle.audit_model.specs.Judging.{id_fault_of, attribute_fault_of}
+use Rattle.audit_model.specs.Judging.{id_fault_of}
 use Rattle.audit_model.proofs.EditLaws.{model_with}
 use Rattle.model_view.specs.Views.{AreAccepted}
 

@@ -2,7 +2,8 @@ ghost use Rattle.std.specs.Prelude.{◌≡◌, [], ◌∷◌, ◌++◌, if◌the
 ghost use Rattle.std.specs.List.{list_any};
 ghost use Rattle.audit_model.specs.Models.{IsModel};
 ghost use Rattle.audit_model.specs.Edits.{edit_id};
-ghost use Rattle.audit_model.specs.Keys.{changes, changed_keys};
+ghost use Rattle.audit_model.specs.Keys.{changes};
+ghost use Rattle.model_view.specs.Changed.{changed_keys};
 
 use crate::list::instance_in;
 use crate::shared::SharedInstance;

@@ -49,7 +49,7 @@ impl Snapshot {
         requires { HasDistinctIds instances }
         ensures { IfOk result (λ snapshot. snapshot ≡ record { model = model_of_file instances; revision = 0 }) }
     {
-        let model = in_order(alloc, instances)?;
+        let model = in_order(instances)?;
         let list = share_all(alloc, model)?;
         match Arc::new(alloc, list) {
             Ok(list) => Ok(Snapshot { list, revision: 0 }),

@@ -28,7 +28,7 @@ fn unordered(alloc: Global) -> Result<Instances, Memory>
 
 #[test]
 fn a_model_ascends(rt: HostRuntime) -> Result<(), Fail> {
-    let model = in_order(rt.alloc(), unordered(rt.alloc())?)?;
+    let model = in_order(unordered(rt.alloc())?)?;
     assert_eq!(rt; model.as_slice().len(), 3);
     for (instance, wanted) in model.as_slice().iter().zip([1, 3, 7]) {
         assert_eq!(rt; instance.id.get(), wanted);

@@ -1,9 +1,10 @@
 -- The place of a digit in a node.
-use Rattle.std.proofs.Common.{◌≡◌, ◌≢◌, ℕ, suc, zero, ◌+◌, ◌<◌, ◌≤◌, ◌⊎◌, Bool, true, false, not, cond, nat_lt, List, [], ◌∷◌, length, get_or, insert, Some, None, is_some, refl, arith, ap, sym, subst, ◌∙◌, inl, inr}
+use Rattle.std.proofs.Common.{◌≡◌, ◌≢◌, ℕ, suc, zero, ◌+◌, ◌<◌, ◌≤◌, ◌⊎◌, true, false, not, cond, nat_lt, List, [], ◌∷◌, length, get_or, insert, Some, None, is_some, refl, arith, ap, sym, subst, ◌∙◌, inl, inr, one-add}
 use Rattle.std.specs.List.{remove}
 use Rattle.std.specs.List.Sorted.{IsPartitionedBy, IsPartitionPoint}
 use Rattle.std.proofs.Math.ListN.{set}
 use Rattle.std.proofs.lemmas.Bool.{cases_lt, lt-ltb, le-ltb, ltb-true, true≢false}
+use Rattle.std.proofs.lemmas.List.Sums.{prefix_len-le-length, prefix_len_is}
 use Rattle.std.specs.declared.cmp.Ordering.TheVariants.{Less, Equal, Greater}
 use Rattle.std.specs.Cmp.{nat_cmp_is}
 use Rattle.std.specs.Ordering.{nat_cmp}
@@ -13,16 +14,6 @@ use Rattle.tree_map.specs.Pairs.{IsAscending, cut}
 use Rattle.tree_map.specs.Places.{place_of}
 use Rattle.tree_map.specs.Ordered.{AreAbove, Rises, rises_of}
 use Rattle.tree_map.proofs.Joining.{tied, apart, missing_above}
-
-one_more : (n : ℕ) → 1 + n ≡ suc n
-one_more n = omega arith
-
-lt_suc : (a n : ℕ) → nat_lt (suc a) (suc n) ≡ nat_lt a n
-lt_suc a n =
-    elim (cases_lt a n) [
-      | inl h ↦ let x : nat_lt (suc a) (suc n) ≡ true = lt-ltb (suc a) (suc n) (omega arith) in x ∙ sym (lt-ltb a n h)
-      | inr h ↦ let x : nat_lt (suc a) (suc n) ≡ false = le-ltb (suc a) (suc n) (omega arith) in x ∙ sym (le-ltb a n h)
-    ]
 
 -- a key is lower than a digit, or the digit, or higher
 three : (d k : ℕ) → (k < d) ⊎ ((d ≡ k) ⊎ (d < k))
@@ -41,50 +32,32 @@ module _ {B : Type 0} where
 
   -- the place of a digit above the first, and of one that isn't
   place_later : (d : ℕ) (p : ℕ × B) (ps : List (ℕ × B)) → p.0 < d → place_of d (p ∷ ps) ≡ suc (place_of d ps)
-  place_later d p ps h = ap (λ b. cond b (1 + place_of d ps) 0) (lt-ltb p.0 d h) ∙ one_more (place_of d ps)
+  place_later d p ps h = ap (λ b. cond b (1 + place_of d ps) 0) (lt-ltb p.0 d h) ∙ one-add (place_of d ps)
 
   place_first : (d : ℕ) (p : ℕ × B) (ps : List (ℕ × B)) → d ≤ p.0 → place_of d (p ∷ ps) ≡ 0
   place_first d p ps h = ap (λ b. cond b (1 + place_of d ps) 0) (le-ltb p.0 d h)
 
   pub place_within : (d : ℕ) (bs : List (ℕ × B)) → place_of d bs ≤ length bs
-  place_within d [] = omega arith
-  place_within d (p ∷ ps) =
-      let rest : place_of d ps ≤ length ps = place_within d ps in
-      elim (cases_lt p.0 d) [
-        | inl h ↦ (let e : place_of d (p ∷ ps) ≡ suc (place_of d ps) = place_later d p ps h in omega arith)
-        | inr h ↦ (let e : place_of d (p ∷ ps) ≡ 0 = place_first d p ps h in omega arith)
-      ]
+  place_within d bs = prefix_len-le-length (λ b. nat_lt b.0 d) bs
 
-  -- a pair has a lower key exactly where it stands before the place
-  before_place : (d : ℕ) (bs : List (ℕ × B)) (i : ℕ) (e : ℕ × B) → Rises bs → i < length bs → nat_lt (get_or bs i e).0 d ≡ nat_lt i (place_of d bs)
-  before_place d [] i e h l = absurd (omega arith)
-  before_place d (x ∷ xs) zero e h l =
-      let F : Bool → Type 0 = λ b. b ≡ nat_lt 0 (cond b (1 + place_of d xs) 0) in
-      elim (nat_lt x.0 d) as F [ true ↦ sym (lt-ltb 0 (1 + place_of d xs) (omega arith)) | false ↦ sym (le-ltb 0 0 (omega arith)) ]
-  before_place d (x ∷ xs) (suc i) e h l =
-      elim (cases_lt x.0 d) [
-        | inl k ↦ before_place d xs i e h.1 (omega arith) ∙ sym (lt_suc i (place_of d xs)) ∙ ap (λ n. nat_lt (suc i) n) (sym (place_later d x xs k))
-        | inr k ↦
-            let over : x.0 < (get_or xs i e).0 = above_at x.0 xs i e h.0 (omega arith) in
-            le-ltb (get_or xs i e).0 d (omega arith) ∙ sym (le-ltb (suc i) 0 (omega arith)) ∙ ap (λ n. nat_lt (suc i) n) (sym (place_first d x xs k))
-      ]
+  rising : (d : ℕ) (bs : List (ℕ × B)) → Rises bs → IsPartitionedBy (λ b. nat_lt b.0 d) bs
+  rising d [] h i j e le l up = absurd (omega (arith, l))
+  rising d (x ∷ xs) h zero zero e le l up = up
+  rising d (x ∷ xs) h zero (suc j) e le l up =
+      let over : x.0 < (get_or xs j e).0 = above_at x.0 xs j e h.0 (omega (arith, l)) in
+      let low : (get_or xs j e).0 < d = ltb-true (get_or xs j e).0 d up in
+      lt-ltb x.0 d (omega arith)
+  rising d (x ∷ xs) h (suc i) zero e le l up = absurd (omega (arith, le))
+  rising d (x ∷ xs) h (suc i) (suc j) e le l up = rising d xs h.1 i j e (omega (arith, le)) (omega (arith, l)) up
 
   -- the keys are partitioned by any digit
   pub partitioned : (d : ℕ) (bs : List (ℕ × B)) → IsAscending bs → IsPartitionedBy (λ b. nat_lt b.0 d) bs
-  partitioned d bs asc i j e le l up =
-      let h : Rises bs = rises_of bs asc in
-      let before : j < place_of d bs = ltb-true j (place_of d bs) (sym (before_place d bs j e h l) ∙ up) in
-      before_place d bs i e h (omega arith) ∙ lt-ltb i (place_of d bs) (omega arith)
+  partitioned d bs asc = rising d bs (rises_of bs asc)
 
   -- a place between the lower keys and the others is the digit's
-  pub place_from_point : (d : ℕ) (bs : List (ℕ × B)) (i : ℕ) → IsAscending bs → i ≤ length bs → IsPartitionPoint (λ (x : ℕ × B). nat_lt x.0 d ≡ true) (λ x. nat_lt x.0 d ≡ false) bs i → i ≡ place_of d bs
-  place_from_point d [] i asc l p = omega arith
-  place_from_point d (x ∷ xs) i asc l p =
-      let h : Rises (x ∷ xs) = rises_of (x ∷ xs) asc in
-      let within : place_of d (x ∷ xs) ≤ length (x ∷ xs) = place_within d (x ∷ xs) in
-      let low : (i < place_of d (x ∷ xs)) → ⊥ = λ k. true≢false (sym (before_place d (x ∷ xs) i x h (omega arith) ∙ lt-ltb i (place_of d (x ∷ xs)) k) ∙ p.1 i x (omega arith) (omega arith)) in
-      let high : (place_of d (x ∷ xs) < i) → ⊥ = λ k. true≢false (sym (p.0 (place_of d (x ∷ xs)) x (omega arith) k) ∙ before_place d (x ∷ xs) (place_of d (x ∷ xs)) x h (omega arith) ∙ le-ltb (place_of d (x ∷ xs)) (place_of d (x ∷ xs)) (omega arith)) in
-      omega (arith, low, high)
+  pub place_from_point : (d : ℕ) (bs : List (ℕ × B)) (i : ℕ) → i ≤ length bs → IsPartitionPoint (λ (x : ℕ × B). nat_lt x.0 d ≡ true) (λ x. nat_lt x.0 d ≡ false) bs i → i ≡ place_of d bs
+  place_from_point d [] i l p = omega (arith, l)
+  place_from_point d (x ∷ xs) i l p = sym (prefix_len_is (λ (b : ℕ × B). nat_lt b.0 d) (x ∷ xs) i x l (λ k b. p.0 k x (omega arith) b) (λ b. p.1 i x (omega arith) b))
 
   -- ---- words at the first pair
   put_later : (d : ℕ) (v : B) (p : ℕ × B) (ps : List (ℕ × B)) → p.0 < d → put nat_cmp d v (p ∷ ps) ≡ p ∷ put nat_cmp d v ps

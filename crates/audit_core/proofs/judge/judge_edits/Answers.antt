@@ -3,11 +3,11 @@ use Rattle.ifc_base.specs.declared.value.Instance.{Instance}
 use Rattle.audit_model.specs.declared.commit.EditFault.{EditFault}
 use Rattle.audit_model.specs.Models.{is_present}
 use Rattle.audit_model.specs.Edits.{edit_id, edited, apply}
-use Rattle.audit_model.specs.Judging.{judge_from, fault_of, refused_or}
+use Rattle.audit_model.specs.Judging.{judge_from, fault_of, fault_given, refused_or}
 use Rattle.audit_model.proofs.Inserting.{judge_next}
 use Rattle.model_view.proofs.Doing.{still_model}
 use Rattle.audit_core.specs.Changes.{last_in}
-use Rattle.audit_core.specs.Judged.{fault_given, count_after}
+use Rattle.audit_core.specs.Judged.{count_after}
 use Rattle.audit_core.proofs.JudgeLaws.{present_edited, length_edited, fault_is, id_fault_none, apply_more}
 use Rattle.audit_core.proofs.judge.judge_edits.Goals as goal
 

@@ -1,7 +1,8 @@
-use Rattle.std.proofs.Common.{◌≡◌, ◌∙◌, ◌+◌, ◌++◌, [], ◌∷◌, take, if◌then◌else◌}
+use Rattle.std.proofs.Common.{◌≡◌, ◌+◌, ◌++◌, [], ◌∷◌, take, if◌then◌else◌}
 use Rattle.ifc_base.specs.declared.key.Key.TheVariants.{Inst}
-use Rattle.audit_model.specs.Keys.{changes, changed_keys}
-use Rattle.audit_model.proofs.Inserting.{keys_more}
+use Rattle.audit_model.specs.Keys.{changes}
+use Rattle.model_view.specs.Changed.{changed_keys}
+use Rattle.model_view.proofs.Changed.{keys_more}
 use Rattle.model_view.proofs.changes.keys_of.Goals as goal
 
 pub loop-edit-preserved : goal.loop-edit-preserved

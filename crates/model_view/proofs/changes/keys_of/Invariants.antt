@@ -1,5 +1,5 @@
 use Rattle.std.proofs.Common.{◌≡◌, take}
-use Rattle.audit_model.specs.Keys.{changed_keys}
+use Rattle.model_view.specs.Changed.{changed_keys}
 use Rattle.model_view.proofs.changes.keys_of.Given as goal
 
 abbrev pub invariant-loop-edit : goal.invariant-loop-edit

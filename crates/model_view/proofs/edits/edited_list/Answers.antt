@@ -1,8 +1,6 @@
-use Rattle.std.proofs.Common.{◌≡◌, ◌∙◌, ◌+◌, drop, sym}
-use Rattle.audit_model.specs.Models.{IsModel}
-use Rattle.audit_model.specs.Edits.{edited, apply}
+use Rattle.std.proofs.Common.{◌≡◌}
+use Rattle.audit_model.specs.Edits.{edited}
 use Rattle.audit_model.proofs.Inserting.{apply_next}
-use Rattle.model_view.specs.Views.{AreAccepted}
 use Rattle.model_view.proofs.Doing.{still_model, accepted_next}
 use Rattle.model_view.proofs.edits.edited_list.Goals as goal
 

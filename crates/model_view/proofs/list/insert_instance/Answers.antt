@@ -1,5 +1,4 @@
-use Rattle.std.proofs.Common.{◌≡◌, ◌≤◌, ◌∙◌, arith, length}
-use Rattle.model_view.specs.Places.{place_of}
+use Rattle.std.proofs.Common.{◌≤◌, ◌∙◌, arith, length}
 use Rattle.model_view.proofs.Places.{place_within, insert_place}
 use Rattle.model_view.proofs.list.insert_instance.Goals as goal
 

@@ -1,5 +1,4 @@
 use Rattle.std.proofs.Common.{◌≡◌, ◌∙◌, ◌==◌, Some, true, false, sym, ap, rules}
-use Rattle.std.proofs.lemmas.Bool.{ne_eqb}
 use Rattle.ifc_base.specs.declared.value.Instance.{Instance}
 use Rattle.model_view.proofs.Places.{past_place, read_place}
 use Rattle.model_view.proofs.list.instance_in.Goals as goal

@@ -6,4 +6,4 @@ use Rattle.model_view.proofs.list.place.Goals as goal
 pub returns : goal.returns
 returns c =
     let point = c.partition_point.ensures.partitioned (λ x. nat_lt x.id c.args.id) (always_returns_same _ _ _ (λ a r f k. search (rules, of_calls))) (partitioned c.args.id c.args.list.now c.requires) in
-    place_from_point c.args.id c.args.list.now c.partition_point.result c.requires c.partition_point.ensures.bound point
+    place_from_point c.args.id c.args.list.now c.partition_point.result c.partition_point.ensures.bound point

@@ -1,4 +1,4 @@
-use Rattle.std.proofs.Common.{◌≡◌, ◌<◌, ◌∙◌, arith, length}
+use Rattle.std.proofs.Common.{◌<◌, arith, length}
 use Rattle.model_view.proofs.Places.{remove_place}
 use Rattle.model_view.proofs.list.remove_instance.Goals as goal
 

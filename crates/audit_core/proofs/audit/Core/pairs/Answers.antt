@@ -1,4 +1,4 @@
-use Rattle.std.proofs.Common.{◌≡◌, ◌∙◌, ap, length, List}
+use Rattle.std.proofs.Common.{◌∙◌, ap, length, List}
 use Rattle.audit_core.specs.declared.board.Row.{Row}
 use Rattle.audit_core.proofs.Boards.{pairs_on_board}
 use Rattle.audit_core.proofs.audit.Core.pairs.Goals as goal

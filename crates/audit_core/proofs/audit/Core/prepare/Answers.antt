@@ -1,4 +1,4 @@
-use Rattle.audit_core.proofs.Passing.{not_prepared, if_not_prepared}
+use Rattle.audit_core.proofs.Passing.{not_prepared, if_not_prepared, on_unchanged}
 use Rattle.audit_core.proofs.audit.Core.prepare.Goals as goal
 
 pub returns-in-Ok-Refused-clause-not_prepared : goal.returns-in-Ok-Refused-clause-not_prepared
@@ -6,3 +6,6 @@ returns-in-Ok-Refused-clause-not_prepared c = not_prepared c.refuse.new.self c.a
 
 pub returns-in-Ok-Next-clause-not_prepared : goal.returns-in-Ok-Next-clause-not_prepared
 returns-in-Ok-Next-clause-not_prepared c = if_not_prepared c.reserve.new.self c.args.actor c.args.draft c.reserve.result c.make_room.ensures.same c.reserve.ensures.not_prepared
+
+pub returns-in-Ok-Next-clause-unchanged : goal.returns-in-Ok-Next-clause-unchanged
+returns-in-Ok-Next-clause-unchanged c = on_unchanged c.reserve.new.self c.reserve.result c.make_room.ensures.same c.reserve.ensures.unchanged

@@ -7,5 +7,6 @@ use Rattle.audit_core.proofs.changes.ChangeLog.make_places.Given as goal
 abbrev pub invariant-loop-key : goal.invariant-loop-key
 invariant-loop-key l = record {
   same : (k : Key) → last_in l.self k ≡ last_in l.fn.self k;
+  keeps : (k : Key) → has_place l.fn.self k ≡ true → has_place l.self k ≡ true;
   placed : list_all (has_place l.self) (take l.key-index l.keys) ≡ true;
 }

@@ -1,5 +1,4 @@
-use Rattle.std.proofs.Common.{◌≡◌, ◌∙◌, sym}
-use Rattle.audit_model.proofs.EditLaws.{changed_keys_are}
+use Rattle.model_view.proofs.Changed.{changed_keys_are}
 use Rattle.model_view.proofs.snapshot.Snapshot.with_edits.Goals as goal
 
 pub returns-in-Ok-clause-changed : goal.returns-in-Ok-clause-changed

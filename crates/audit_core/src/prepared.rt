@@ -1,0 +1,35 @@
+use crate::board::Row;
+use audit_model::Edits;
+use ifc_base::Keys;
+use model_view::Snapshot;
+use std::marker::Model;
+
+/// A commit that is accepted and not made yet. It may be dropped, which leaves the core as it is.
+#[derive(Drop)]
+pub struct Prepared {
+    pub(crate) actor: u32,
+    pub(crate) base: u32,
+    pub(crate) edits: Edits,
+    pub(crate) next: Snapshot,
+    pub(crate) keys: Keys,
+    pub(crate) rows: Vec<Row>,
+}
+
+impl Model for Prepared {
+    ghost use Rattle.std.specs.Coded.{codes};
+    ghost use Rattle.ifc_base.specs.contracts.value.Value as value;
+    ghost use Rattle.audit_core.specs.Commits.{PreparedView};
+
+    ghost Value = { PreparedView };
+
+    ghost coded = { Prim.hlevel (codes, value.the_row.coded) };
+
+    ghost view = { λ prepared. record {
+      actor = prepared.actor;
+      base = prepared.base;
+      edits = prepared.edits;
+      next = prepared.next;
+      keys = prepared.keys;
+      rows = prepared.rows.items;
+    } };
+}

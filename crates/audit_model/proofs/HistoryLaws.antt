@@ -1,5 +1,5 @@
 -- Laws of legal histories.
-use Rattle.std.proofs.Common.{◌≡◌, ℕ, ◌≤◌, Bool, true, false, ◌&&◌, ◌||◌, nat_le, if◌then◌else◌, ◌⊎◌, inl, inr, List, [], ◌∷◌, ◌++◌, length, Option, Some, None, refl, arith, ap, sym, subst, ◌∙◌}
+use Rattle.std.proofs.Common.{◌≡◌, ℕ, suc, ◌+◌, ◌≤◌, Bool, true, false, ◌&&◌, ◌||◌, nat_le, if◌then◌else◌, ◌⊎◌, inl, inr, List, [], ◌∷◌, ◌++◌, length, Option, Some, None, refl, arith, ap, sym, subst, ◌∙◌}
 use Rattle.std.specs.List.{cons_option}
 use Rattle.std.proofs.lemmas.Bool.{and_parts}
 use Rattle.audit_model.specs.declared.commit.Edit.{Edit}
@@ -16,8 +16,9 @@ use Rattle.audit_model.specs.Edits.{apply}
 use Rattle.audit_model.specs.Pairs.{same_pair}
 use Rattle.audit_model.specs.Judging.{judge}
 use Rattle.audit_model.specs.History.{Ground, AllModels, model_after, model_of, accepted, accepted_by, commits, revision, current, last_change, out, used, used_by, settled, settled_by, stands_by}
-use Rattle.audit_model.specs.Machine.{Answers, MayFollow, Legal, committed}
-use Rattle.audit_model.specs.Laws.{OneReply, CallsDetermine, calls, ModelsAscend, RefusedChangesNothing, IsUsedDelivery, SettledByDelivery, EarlierModelsStay, SettledIsPair, NeedsCoverVerdict}
+use Rattle.audit_model.specs.Machine.{Answers, MayFollow, Legal, committed, claimed, delivered, published}
+use Rattle.ifc_base.specs.declared.key.Key.{Key}
+use Rattle.audit_model.specs.Laws.{CommitsAreNumbered, accepted_as, down_from, OneReply, CallsDetermine, calls, ModelsAscend, RefusedChangesNothing, IsUsedDelivery, SettledByDelivery, EarlierModelsStay, SettledIsPair, NeedsCoverVerdict}
 use Rattle.audit_model.proofs.Apart.{same_pair-true}
 use Rattle.audit_model.proofs.Commits.{model_of-older}
 use Rattle.audit_model.proofs.Claims.{sound_used}
@@ -58,6 +59,50 @@ calls_determine g (e ∷ h) (f ∷ k) l m s =
     let same : h ≡ k = calls_determine g h k l.1 m.1 rest in
     let first : e ≡ f = same_entry g h e f (ap (λ (t : ℕ × Call). t.0) head) (ap (λ (t : ℕ × Call). t.1) head) l.0 (rw same m.0) in
     λ i. first i ∷ same i
+
+-- Numbers of commits.
+
+committed_as : (o : Option CommitRefusal) (r n : ℕ) → Accepted r ≡ committed o n → r ≡ n
+committed_as None r n e = cc
+committed_as (Some f) r n e = absurd (cc)
+
+no_claim : (o : Option Pair) (r number n : ℕ) → Accepted r ≡ claimed o number n → ⊥
+no_claim None r number n e = cc
+no_claim (Some p) r number n e = cc
+
+no_delivery : (o : Option Key) (last : Key → ℕ) (r : ℕ) → Accepted r ≡ delivered o last → ⊥
+no_delivery None last r e = cc
+no_delivery (Some k) last r e = cc
+
+no_report : (o : Option Pair) (r n : ℕ) → Accepted r ≡ published o n → ⊥
+no_report None r n e = cc
+no_report (Some p) r n e = cc
+
+numbered_after : (g : Ground) (h : List StepRec) (actor : ℕ) (call : Call) (reply : Reply) → Answers g h actor call reply
+    → cons_option (accepted_as reply) (down_from (revision h)) ≡ down_from (length (cons_option (accepted_by call reply) (commits h)))
+numbered_after g h actor call (Began r) a = refl
+numbered_after g h actor call (Refused f) a = refl
+numbered_after g h actor call (Claimed n p r) a = refl
+numbered_after g h actor call Idle a = refl
+numbered_after g h actor call Used a = refl
+numbered_after g h actor call (Stale k r) a = refl
+numbered_after g h actor call Back a = refl
+numbered_after g h actor call (Pending p) a = refl
+numbered_after g h actor call (Report r) a = refl
+numbered_after g h actor Begin (Accepted r) a = absurd (cc)
+numbered_after g h actor Claim (Accepted r) a = absurd (no_claim _ r _ _ a)
+numbered_after g h actor (Deliver n) (Accepted r) (c, p, a) = absurd (no_delivery _ _ r a)
+numbered_after g h actor (GiveBack n) (Accepted r) (c, p, a) = absurd (cc)
+numbered_after g h actor Publish (Accepted r) a = absurd (no_report _ r _ a)
+numbered_after g h actor (Commit base edits) (Accepted r) a =
+    let next : r ≡ revision h + 1 = committed_as _ r (revision h + 1) a.1 in
+    let is : r ≡ suc (revision h) = omega (arith, next) in
+    ap (λ (n : ℕ). n ∷ down_from (revision h)) is
+
+pub commits_are_numbered : CommitsAreNumbered
+commits_are_numbered g [] l = refl
+commits_are_numbered g (e ∷ h) l =
+    ap (λ (ns : List ℕ). cons_option (accepted_as e.reply) ns) (commits_are_numbered g h l.1) ∙ numbered_after g h e.actor e.call e.reply l.0
 
 -- Models.
 

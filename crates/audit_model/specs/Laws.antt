@@ -1,5 +1,5 @@
 -- Laws of legal histories, each the contract of a function without a body.
-use Rattle.std.specs.Prelude.{◌≡◌, ℕ, ◌+◌, ◌<◌, ◌≤◌, Bool, true, false, ◌⊎◌, List, [], ◌∷◌, ◌++◌, map, Option, Some, None}
+use Rattle.std.specs.Prelude.{◌≡◌, ℕ, zero, suc, filter_map, ◌+◌, ◌<◌, ◌≤◌, Bool, true, false, ◌⊎◌, List, [], ◌∷◌, ◌++◌, map, Option, Some, None}
 use Rattle.ifc_base.specs.declared.value.Instance.{Instance}
 use Rattle.ifc_base.specs.declared.key.Key.{Key}
 use Rattle.audit_model.specs.declared.commit.CommitRefusal.{CommitRefusal}
@@ -10,7 +10,7 @@ use Rattle.audit_model.specs.declared.verdict.Pair.{Pair}
 use Rattle.audit_model.specs.declared.step.Call.{Call}
 use Rattle.audit_model.specs.declared.step.Call.TheVariants.{Commit, Deliver}
 use Rattle.audit_model.specs.declared.step.Reply.{Reply}
-use Rattle.audit_model.specs.declared.step.Reply.TheVariants.{Refused, Used}
+use Rattle.audit_model.specs.declared.step.Reply.TheVariants.{Accepted, Refused, Used}
 use Rattle.audit_model.specs.declared.step.StepRec.{StepRec}
 use Rattle.audit_model.specs.declared.step.Given.{Given}
 use Rattle.audit_model.specs.Models.{IsModel}
@@ -37,6 +37,20 @@ CallsDetermine = (g : Ground) (h k : List StepRec) → Legal g h → Legal g k �
 -- Where the ids of the file's model ascend, so do those of the model of each revision of a legal history.
 abbrev pub ModelsAscend : Type 0
 ModelsAscend = (g : Ground) (h : List StepRec) (r : ℕ) → IsModel g.first → Legal g h → IsModel (model_at g h r)
+
+-- the revision that a commit was accepted as
+abbrev pub accepted_as : Reply → Option ℕ
+accepted_as (Accepted r) = Some r
+accepted_as _ = None
+
+-- the numbers from n down to 1
+abbrev pub down_from : ℕ → List ℕ
+down_from zero = []
+down_from (suc n) = suc n ∷ down_from n
+
+-- Accepted commits form one order: the replies that accept one, the newest first, name the revisions from the current one down to 1.
+abbrev pub CommitsAreNumbered : Type 0
+CommitsAreNumbered = (g : Ground) (h : List StepRec) → Legal g h → filter_map (λ e. accepted_as e.reply) h ≡ down_from (revision h)
 
 -- the entry e, made after the history h, changes no revision, no model, no settled pair and no claim out
 pub record ChangesNothing (g : Ground) (h : List StepRec) (e : StepRec) : Type 0 where

@@ -1,6 +1,6 @@
 //! Laws of the definitions. Each function does nothing: its contract is the law.
 ghost use Rattle.audit_model.specs.Drain.{DrainFollows, DrainOfFile};
-ghost use Rattle.audit_model.specs.Laws.{CallsDetermine, DanglingIsLeast, EarlierModelsStay, LastChangeIsLast};
+ghost use Rattle.audit_model.specs.Laws.{CallsDetermine, CommitsAreNumbered, DanglingIsLeast, EarlierModelsStay, LastChangeIsLast};
 ghost use Rattle.audit_model.specs.Laws.{ModelsAscend, NeedsCoverVerdict, OneReply, PairsAscend};
 ghost use Rattle.audit_model.specs.Laws.{RefusedChangesNothing, SettledByDelivery, SettledIsPair};
 
@@ -17,6 +17,11 @@ pub fn calls_determine()
 /// The models of a legal history have ascending, distinct ids, given that the first has.
 pub fn models_ascend()
     ensures { ModelsAscend }
+{}
+
+/// Accepted commits form one order: the replies that accept them name the revisions 1, 2, 3 and so on.
+pub fn commits_are_numbered()
+    ensures { CommitsAreNumbered }
 {}
 
 /// A refused commit leaves revisions, models, settled pairs and claims out as they were.

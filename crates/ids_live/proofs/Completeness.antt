@@ -1,9 +1,10 @@
 -- Which status a run over told inputs has.
-use Rattle.std.proofs.Common.{◌≡◌, ℕ, zero, suc, ◌<◌, ◌≤◌, List, [], ◌∷◌, length, Bool, true, false, Option, Result, Ok, Err, refl, ap, sym, ◌∙◌, arith, subst, rules}
-use Rattle.std.specs.Prelude.{Some, None, IfSome, IsOk, IsErr, IsTrue, if◌then◌else◌, MatchResult}
+use Rattle.std.proofs.Common.{◌≡◌, ℕ, zero, suc, ◌<◌, List, [], ◌∷◌, length, true, false, Option, Result, Ok, Err, refl, ap, sym, ◌∙◌, arith, subst}
+use Rattle.std.specs.Prelude.{Some, None, IfSome, IsOk, IsErr, MatchResult}
 use Rattle.ifc_base.specs.declared.value.Instance.{Instance}
 use Rattle.shelf_io.specs.Causes.{Rose}
 use Rattle.shelf_io.specs.Pieces.{Files}
+use Rattle.shelf_io.specs.Reads.{Read}
 use Rattle.std.proofs.lemmas.Bool.{true≢false}
 use Rattle.audit_model.specs.declared.script.Phase.{Phase}
 use Rattle.audit_model.specs.declared.specification.Specification.{Specification}
@@ -11,7 +12,8 @@ use Rattle.ids_live.specs.declared.ending.Ended.{Ended}
 use Rattle.ids_live.specs.declared.refused.Refused.{Refused}
 use Rattle.ids_live.specs.declared.load.Loaded.{Loaded}
 use Rattle.ids_live.specs.Inputs.{Inputs, AreHeld, loaded_of, first_refusal, limit, model_limit, schema_read, specs_read, model_read, script_read}
-use Rattle.ids_live.specs.Run.{At, IsRun, IsEndOf, IsShelfAfter, IsSinkAfter, is_among}
+use Rattle.ids_live.specs.Reading.{AreInputs}
+use Rattle.ids_live.specs.Run.{At, IsRun, IsShelfAfter, IsSinkAfter}
 use Rattle.ids_live.specs.Complete.{IsComplete, IsPlayable, IsOverfull, IsSure, wanted}
 use Rattle.ids_live.specs.Steps.{meets_full}
 use Rattle.ids_live.specs.Told.{AreTold, AreSteady, IsUnsteady}
@@ -80,11 +82,14 @@ overfull : (r : Result Loaded Refused) (P : Loaded → Type 0) → MatchResult r
 overfull (Ok l) P k = k.0
 overfull (Err refused) P k = k
 
-pub complete : (held now : Option Files) (command : Command) (old new : Option (List ℕ)) (before faults sink_before sink_faults : ℕ) (e : Ended) (i t : Inputs) (s : ℕ)
-    → e.status ≡ s → s < 8 → (e.status ≡ 6 → ⊥) → IsShelfAfter held now before faults e → IsSinkAfter sink_before sink_faults e → IsRun held command old new e i
+held_inputs : (held : Option Files) (log logged : List Read) (command : Command) (i : Inputs) → AreInputs held log logged command i → AreHeld held command i
+held_inputs held log logged command i h = h.0
+
+pub complete : (held now : Option Files) (log logged : List Read) (command : Command) (old new : Option (List ℕ)) (before faults sink_before sink_faults : ℕ) (e : Ended) (i t : Inputs) (s : ℕ)
+    → e.status ≡ s → s < 8 → (e.status ≡ 6 → ⊥) → IsShelfAfter held now before faults e → IsSinkAfter sink_before sink_faults e → IsRun held log logged command old new e i
     → AreTold held command t → IsComplete (loaded_of t) (Rose before faults) (Rose sink_before sink_faults) e.status
-complete held now command old new before faults sink_before sink_faults e i t zero is lt not_six shelf sink run told =
-    let same : loaded_of i ≡ loaded_of t = same_loading held command i t (rw is at run.inputs) told in
+complete held now log logged command old new before faults sink_before sink_faults e i t zero is lt not_six shelf sink run told =
+    let same : loaded_of i ≡ loaded_of t = same_loading held command i t (held_inputs held log logged command i (rw is at run.inputs)) told in
     let play : IsPlayable (loaded_of t) = rw same at (rw is at run.ends.room) in
     record {
       ran = λ h. play;
@@ -94,8 +99,8 @@ complete held now command old new before faults sink_before sink_faults e i t ze
       fills = λ f b c d. absurd (not_filled (loaded_of t) play f);
       refuses = λ err b c d. absurd (not_refused (loaded_of t) play err);
     }
-complete held now command old new before faults sink_before sink_faults e i t (suc zero) is lt not_six shelf sink run told =
-    let same : loaded_of i ≡ loaded_of t = same_loading held command i t (rw is at run.inputs) told in
+complete held now log logged command old new before faults sink_before sink_faults e i t (suc zero) is lt not_six shelf sink run told =
+    let same : loaded_of i ≡ loaded_of t = same_loading held command i t (held_inputs held log logged command i (rw is at run.inputs)) told in
     let play : IsPlayable (loaded_of t) = rw same at (rw is at run.ends.room) in
     record {
       ran = λ h. play;
@@ -105,8 +110,8 @@ complete held now command old new before faults sink_before sink_faults e i t (s
       fills = λ f b c d. absurd (not_filled (loaded_of t) play f);
       refuses = λ err b c d. absurd (not_refused (loaded_of t) play err);
     }
-complete held now command old new before faults sink_before sink_faults e i t (suc (suc zero)) is lt not_six shelf sink run told =
-    let same : loaded_of i ≡ loaded_of t = same_loading held command i t (rw is at run.inputs) told in
+complete held now log logged command old new before faults sink_before sink_faults e i t (suc (suc zero)) is lt not_six shelf sink run told =
+    let same : loaded_of i ≡ loaded_of t = same_loading held command i t (held_inputs held log logged command i (rw is at run.inputs)) told in
     let err : IsErr (loaded_of t) = rw same at (refused_not_ok (loaded_of i) _ (rw is at run.ends.refusal)) in
     record {
       ran = λ h. absurd (let bad : false ≡ true = rw is at h in cc);
@@ -116,7 +121,7 @@ complete held now command old new before faults sink_before sink_faults e i t (s
       fills = λ f b c d. absurd (filled_not_refused (loaded_of t) f err);
       refuses = λ h b c d. is;
     }
-complete held now command old new before faults sink_before sink_faults e i t (suc (suc (suc zero))) is lt not_six shelf sink run told =
+complete held now log logged command old new before faults sink_before sink_faults e i t (suc (suc (suc zero))) is lt not_six shelf sink run told =
     let rose : Rose before faults = rw is at shelf.cause in
     record {
       ran = λ h. absurd (let bad : false ≡ true = rw is at h in cc);
@@ -126,7 +131,7 @@ complete held now command old new before faults sink_before sink_faults e i t (s
       fills = λ f b c d. absurd (b rose);
       refuses = λ h b c d. absurd (b rose);
     }
-complete held now command old new before faults sink_before sink_faults e i t (suc (suc (suc (suc zero)))) is lt not_six shelf sink run told =
+complete held now log logged command old new before faults sink_before sink_faults e i t (suc (suc (suc (suc zero)))) is lt not_six shelf sink run told =
     let rose : Rose sink_before sink_faults = rw is at sink.cause in
     record {
       ran = λ h. absurd (let bad : false ≡ true = rw is at h in cc);
@@ -136,7 +141,7 @@ complete held now command old new before faults sink_before sink_faults e i t (s
       fills = λ f b c d. absurd (c rose);
       refuses = λ h b c d. absurd (c rose);
     }
-complete held now command old new before faults sink_before sink_faults e i t (suc (suc (suc (suc (suc zero))))) is lt not_six shelf sink run told =
+complete held now log logged command old new before faults sink_before sink_faults e i t (suc (suc (suc (suc (suc zero))))) is lt not_six shelf sink run told =
     record {
       ran = λ h. absurd (let bad : false ≡ true = rw is at h in cc);
       filled = λ seven. absurd (cc);
@@ -145,10 +150,10 @@ complete held now command old new before faults sink_before sink_faults e i t (s
       fills = λ f b c d. absurd (d is);
       refuses = λ h b c d. absurd (d is);
     }
-complete held now command old new before faults sink_before sink_faults e i t (suc (suc (suc (suc (suc (suc zero)))))) is lt not_six shelf sink run told =
+complete held now log logged command old new before faults sink_before sink_faults e i t (suc (suc (suc (suc (suc (suc zero)))))) is lt not_six shelf sink run told =
     absurd (not_six is)
-complete held now command old new before faults sink_before sink_faults e i t (suc (suc (suc (suc (suc (suc (suc zero))))))) is lt not_six shelf sink run told =
-    let same : loaded_of i ≡ loaded_of t = same_loading held command i t (rw is at run.inputs) told in
+complete held now log logged command old new before faults sink_before sink_faults e i t (suc (suc (suc (suc (suc (suc (suc zero))))))) is lt not_six shelf sink run told =
+    let same : loaded_of i ≡ loaded_of t = same_loading held command i t (held_inputs held log logged command i (rw is at run.inputs)) told in
     let full : IsOverfull (loaded_of t) = rw same at (overfull (loaded_of i) _ (rw is at run.ends.full)) in
     record {
       ran = λ h. absurd (let bad : false ≡ true = rw is at h in cc);
@@ -158,47 +163,47 @@ complete held now command old new before faults sink_before sink_faults e i t (s
       fills = λ f b c d. is;
       refuses = λ err b c d. absurd (filled_not_refused (loaded_of t) full err);
     }
-complete held now command old new before faults sink_before sink_faults e i t (suc (suc (suc (suc (suc (suc (suc (suc s)))))))) is lt not_six shelf sink run told = absurd (omega arith)
+complete held now log logged command old new before faults sink_before sink_faults e i t (suc (suc (suc (suc (suc (suc (suc (suc s)))))))) is lt not_six shelf sink run told = absurd (omega arith)
 
-pub all_complete : (o : Option Command) (held now : Option Files) (old new : Option (List ℕ)) (before faults sink_before sink_faults : ℕ) (e : Ended)
+pub all_complete : (o : Option Command) (held now : Option Files) (log logged : List Read) (old new : Option (List ℕ)) (before faults sink_before sink_faults : ℕ) (e : Ended)
     → e.status < 8 → (e.status ≡ 6 → o ≡ None) → IsShelfAfter held now before faults e → IsSinkAfter sink_before sink_faults e
-    → IfSome o (λ command. (i : Inputs) × IsRun held command old new e i)
+    → IfSome o (λ command. (i : Inputs) × IsRun held log logged command old new e i)
     → IfSome o (λ command. (t : Inputs) → AreTold held command t → IsComplete (loaded_of t) (Rose before faults) (Rose sink_before sink_faults) e.status)
-all_complete None held now old new before faults sink_before sink_faults e lt words shelf sink run = tt
-all_complete (Some command) held now old new before faults sink_before sink_faults e lt words shelf sink run = λ t told.
-    complete held now command old new before faults sink_before sink_faults e run.0 t e.status refl lt (λ six. let bad : Some command ≡ None = words six in absurd (cc)) shelf sink run.1 told
+all_complete None held now log logged old new before faults sink_before sink_faults e lt words shelf sink run = tt
+all_complete (Some command) held now log logged old new before faults sink_before sink_faults e lt words shelf sink run = λ t told.
+    complete held now log logged command old new before faults sink_before sink_faults e run.0 t e.status refl lt (λ six. let bad : Some command ≡ None = words six in absurd (cc)) shelf sink run.1 told
 
-sure_by : (held now : Option Files) (command : Command) (steady : List ℕ → Type 0) (sure : ℕ → Type 0) (before faults sink_before sink_faults : ℕ) (e : Ended) (i t : Inputs) (s : ℕ)
+sure_by : (held now : Option Files) (log logged : List Read) (command : Command) (steady : List ℕ → Type 0) (sure : ℕ → Type 0) (before faults sink_before sink_faults : ℕ) (e : Ended) (i t : Inputs) (s : ℕ)
     → e.status ≡ s → s < 8 → IsShelfAfter held now before faults e → IsSinkAfter sink_before sink_faults e → AreTold held command t
-    → At (3 ∷ []) e.status (IsUnsteady held steady command) → At (4 ∷ []) e.status (AreHeld held command i × (sure (length (wanted (loaded_of i))) → ⊥))
+    → At (3 ∷ []) e.status (IsUnsteady held steady command) → At (4 ∷ []) e.status (AreInputs held log logged command i × (sure (length (wanted (loaded_of i))) → ⊥))
     → IsSure (AreSteady steady command t) (sure (length (wanted (loaded_of t)))) (faults ≡ before) (sink_faults ≡ sink_before) e.status
-sure_by held now command steady sure before faults sink_before sink_faults e i t zero is lt shelf sink told untold room =
+sure_by held now log logged command steady sure before faults sink_before sink_faults e i t zero is lt shelf sink told untold room =
     record { reads = λ h. (rw is at shelf.calm, λ three. absurd (cc)); writes = λ h. (rw is at sink.calm, λ four. absurd (cc)) }
-sure_by held now command steady sure before faults sink_before sink_faults e i t (suc zero) is lt shelf sink told untold room =
+sure_by held now log logged command steady sure before faults sink_before sink_faults e i t (suc zero) is lt shelf sink told untold room =
     record { reads = λ h. (rw is at shelf.calm, λ three. absurd (cc)); writes = λ h. (rw is at sink.calm, λ four. absurd (cc)) }
-sure_by held now command steady sure before faults sink_before sink_faults e i t (suc (suc zero)) is lt shelf sink told untold room =
+sure_by held now log logged command steady sure before faults sink_before sink_faults e i t (suc (suc zero)) is lt shelf sink told untold room =
     record { reads = λ h. (rw is at shelf.calm, λ three. absurd (cc)); writes = λ h. (rw is at sink.calm, λ four. absurd (cc)) }
-sure_by held now command steady sure before faults sink_before sink_faults e i t (suc (suc (suc zero))) is lt shelf sink told untold room =
+sure_by held now log logged command steady sure before faults sink_before sink_faults e i t (suc (suc (suc zero))) is lt shelf sink told untold room =
     let unsteady : IsUnsteady held steady command = rw is at untold in
     record { reads = λ h. absurd (unsteady t told h); writes = λ h. (rw is at sink.calm, λ four. absurd (cc)) }
-sure_by held now command steady sure before faults sink_before sink_faults e i t (suc (suc (suc (suc zero)))) is lt shelf sink told untold room =
-    let full : AreHeld held command i × (sure (length (wanted (loaded_of i))) → ⊥) = rw is at room in
-    let same : loaded_of i ≡ loaded_of t = same_loading held command i t full.0 told in
+sure_by held now log logged command steady sure before faults sink_before sink_faults e i t (suc (suc (suc (suc zero)))) is lt shelf sink told untold room =
+    let full : AreInputs held log logged command i × (sure (length (wanted (loaded_of i))) → ⊥) = rw is at room in
+    let same : loaded_of i ≡ loaded_of t = same_loading held command i t full.0.0 told in
     record { reads = λ h. (rw is at shelf.calm, λ three. absurd (cc)); writes = λ h. absurd (full.1 (rw same h)) }
-sure_by held now command steady sure before faults sink_before sink_faults e i t (suc (suc (suc (suc (suc zero))))) is lt shelf sink told untold room =
+sure_by held now log logged command steady sure before faults sink_before sink_faults e i t (suc (suc (suc (suc (suc zero))))) is lt shelf sink told untold room =
     record { reads = λ h. (rw is at shelf.calm, λ three. absurd (cc)); writes = λ h. (rw is at sink.calm, λ four. absurd (cc)) }
-sure_by held now command steady sure before faults sink_before sink_faults e i t (suc (suc (suc (suc (suc (suc zero)))))) is lt shelf sink told untold room =
+sure_by held now log logged command steady sure before faults sink_before sink_faults e i t (suc (suc (suc (suc (suc (suc zero)))))) is lt shelf sink told untold room =
     record { reads = λ h. (rw is at shelf.calm, λ three. absurd (cc)); writes = λ h. (rw is at sink.calm, λ four. absurd (cc)) }
-sure_by held now command steady sure before faults sink_before sink_faults e i t (suc (suc (suc (suc (suc (suc (suc zero))))))) is lt shelf sink told untold room =
+sure_by held now log logged command steady sure before faults sink_before sink_faults e i t (suc (suc (suc (suc (suc (suc (suc zero))))))) is lt shelf sink told untold room =
     record { reads = λ h. (rw is at shelf.calm, λ three. absurd (cc)); writes = λ h. (rw is at sink.calm, λ four. absurd (cc)) }
-sure_by held now command steady sure before faults sink_before sink_faults e i t (suc (suc (suc (suc (suc (suc (suc (suc s)))))))) is lt shelf sink told untold room = absurd (omega arith)
+sure_by held now log logged command steady sure before faults sink_before sink_faults e i t (suc (suc (suc (suc (suc (suc (suc (suc s)))))))) is lt shelf sink told untold room = absurd (omega arith)
 
-pub all_sure : (o : Option Command) (held now : Option Files) (steady : List ℕ → Type 0) (sure : ℕ → Type 0) (before faults sink_before sink_faults : ℕ) (e : Ended)
+pub all_sure : (o : Option Command) (held now : Option Files) (log logged : List Read) (steady : List ℕ → Type 0) (sure : ℕ → Type 0) (before faults sink_before sink_faults : ℕ) (e : Ended)
     → e.status < 8 → IsShelfAfter held now before faults e → IsSinkAfter sink_before sink_faults e
     → IfSome o (λ command. At (3 ∷ []) e.status (IsUnsteady held steady command))
-    → IfSome o (λ command. (i : Inputs) × At (4 ∷ []) e.status (AreHeld held command i × (sure (length (wanted (loaded_of i))) → ⊥)))
+    → IfSome o (λ command. (i : Inputs) × At (4 ∷ []) e.status (AreInputs held log logged command i × (sure (length (wanted (loaded_of i))) → ⊥)))
     → IfSome o (λ command. (t : Inputs) → AreTold held command t
     → IsSure (AreSteady steady command t) (sure (length (wanted (loaded_of t)))) (faults ≡ before) (sink_faults ≡ sink_before) e.status)
-all_sure None held now steady sure before faults sink_before sink_faults e lt shelf sink untold room = tt
-all_sure (Some command) held now steady sure before faults sink_before sink_faults e lt shelf sink untold room = λ t told.
-    sure_by held now command steady sure before faults sink_before sink_faults e room.0 t e.status refl lt shelf sink told untold room.1
+all_sure None held now log logged steady sure before faults sink_before sink_faults e lt shelf sink untold room = tt
+all_sure (Some command) held now log logged steady sure before faults sink_before sink_faults e lt shelf sink untold room = λ t told.
+    sure_by held now log logged command steady sure before faults sink_before sink_faults e room.0 t e.status refl lt shelf sink told untold room.1

@@ -1,11 +1,12 @@
 -- The ends of a run.
-use Rattle.std.proofs.Common.{◌≡◌, ℕ, ◌+◌, reverse, List, [], ◌∷◌, ◌++◌, length, take, Bool, true, false, ◌&&◌, ◌||◌, ◌==◌, Option, Result, Ok, Err, ◌⊎◌, inl, inr, refl, ap, sym, subst, ◌∙◌, arith, rules}
-use Rattle.std.specs.Prelude.{◌<◌, ◌≤◌, if◌then◌else◌, Some, None, IfSome, IfOk}
+use Rattle.std.proofs.Common.{◌≡◌, ℕ, ◌+◌, reverse, List, [], ◌∷◌, ◌++◌, length, take, Bool, true, false, ◌&&◌, ◌||◌, ◌==◌, Option, Result, Ok, Err, inl, refl, ap, sym, subst, ◌∙◌, arith}
+use Rattle.std.specs.Prelude.{⊤, ◌<◌, ◌≤◌, if◌then◌else◌, Some, None, IfSome, IfOk}
 use Rattle.std.specs.Bool.{OnTrue}
 use Rattle.std.proofs.lemmas.Bool.{eqb-true, lt-ltb}
 use Rattle.std.proofs.lemmas.List.{append-nil, reverse-reverse}
 use Rattle.shelf_io.specs.Causes.{Rose}
 use Rattle.shelf_io.specs.Pieces.{Files, Appended}
+use Rattle.shelf_io.specs.Reads.{Read}
 use Rattle.audit_model.specs.declared.specification.Specification.{Specification}
 use Rattle.audit_model.specs.declared.step.StepRec.{StepRec}
 use Rattle.audit_model.specs.declared.step.Given.{Given}
@@ -35,6 +36,8 @@ use Rattle.ids_live.specs.Steps.{ground_of, serial, meets_full, output, status_a
 use Rattle.ids_live.specs.Words.{Command}
 use Rattle.ids_live.specs.Inputs.{Inputs, loaded_of}
 use Rattle.ids_live.specs.Complete.{wanted}
+use Rattle.ids_live.specs.Reading.{IsCut, IsPart, CameTo, AreInputs}
+use Rattle.ids_live.proofs.Reaching.{read_part}
 use Rattle.ids_live.specs.Run.{At, IfSteps, IsEndOf, IsRun, IsSinkAfter, is_among}
 
 -- an end without a step, where no more is said at its status than that nothing was written
@@ -131,19 +134,93 @@ refused_cut refused old new e n none short written status = record {
 no_inputs : Inputs
 no_inputs = record { schema = None; specs = None; model = None; script = None }
 
--- a run that ended before a step, for want of memory
-pub early_run : (o : Option Command) (held : Option Files) (old : Option (List ℕ)) (e : Ended) → e.journal ≡ [] → e.status ≡ 5
-    → IfSome o (λ command. (i : Inputs) × IsRun held command old old e i)
-early_run None held old e none five = tt
-early_run (Some command) held old e none five =
-    (no_inputs, record { inputs = rw five tt; inputs_in_steps = rw (five, none) tt; ends = early_end (loaded_of no_inputs) old old e none five refl })
+-- a run that ended while the inputs were read, for want of memory
+pub early_run : (command : Command) (held : Option Files) (before after : List Read) (old : Option (List ℕ)) (e : Ended) → e.journal ≡ [] → e.status ≡ 5 → CameTo IsPart command before after
+    → (i : Inputs) × IsRun held before after command old old e i
+early_run command held before after old e none five part = (
+  no_inputs,
+  record {
+    inputs = rw five tt;
+    inputs_in_steps = rw (five, none) tt;
+    cut = rw five tt;
+    part = rw five part;
+    ends = early_end (loaded_of no_inputs) old old e none five refl;
+  },
+)
 
 -- or for a fault of the shelf
-pub shelf_run : (o : Option Command) (held : Option Files) (old : Option (List ℕ)) (e : Ended) → e.status ≡ 3
-    → IfSome o (λ command. (i : Inputs) × IsRun held command old old e i)
-shelf_run None held old e three = tt
-shelf_run (Some command) held old e three =
-    (no_inputs, record { inputs = rw three tt; inputs_in_steps = rw three tt; ends = shelf_end (loaded_of no_inputs) old old e three })
+pub shelf_run : (command : Command) (held : Option Files) (before after : List Read) (old : Option (List ℕ)) (e : Ended) → e.status ≡ 3 → CameTo IsCut command before after
+    → (i : Inputs) × IsRun held before after command old old e i
+shelf_run command held before after old e three cut = (
+  no_inputs,
+  record {
+    inputs = rw three tt;
+    inputs_in_steps = rw three tt;
+    cut = rw three cut;
+    part = rw three tt;
+    ends = shelf_end (loaded_of no_inputs) old old e three;
+  },
+)
+
+-- what is said of the command that the words give
+pub of_command : {o : Option Command} (command : Command) (P : Command → Type 0) → Some command ≡ o → P command → IfSome o P
+of_command command P is h = subst (λ (o : Option Command). IfSome o P) is h
+
+-- The status of a run whose inputs were read isn't 3.
+
+not_3 : (P : Type 0) (s : ℕ) → is_among (0 ∷ 1 ∷ 2 ∷ 4 ∷ 5 ∷ 7 ∷ []) s ≡ true → At (3 ∷ []) s P
+not_3 P s among = by_test (3 == s) refl where
+  by_test : (b : Bool) → (3 == s) ≡ b → OnTrue (b || false) P
+  by_test false e = tt
+  by_test true e =
+      let three : 3 ≡ s = eqb-true 3 s e in
+      let bad : is_among (0 ∷ 1 ∷ 2 ∷ 4 ∷ 5 ∷ 7 ∷ []) 3 ≡ true = subst (λ (n : ℕ). is_among (0 ∷ 1 ∷ 2 ∷ 4 ∷ 5 ∷ 7 ∷ []) n ≡ true) (sym three) among in
+      absurd (let no : false ≡ true = bad in cc)
+
+one_more : (a b c rest : Bool) → (a || (b || rest)) ≡ true → (a || (b || (c || rest))) ≡ true
+one_more true b c rest h = refl
+one_more false true c rest h = refl
+one_more false false true rest h = refl
+one_more false false false rest h = h
+
+pub among_played : (s : ℕ) → is_among (0 ∷ 1 ∷ 4 ∷ 5 ∷ 7 ∷ []) s ≡ true → is_among (0 ∷ 1 ∷ 2 ∷ 4 ∷ 5 ∷ 7 ∷ []) s ≡ true
+among_played s among = one_more (0 == s) (1 == s) (2 == s) ((4 == s) || ((5 == s) || ((7 == s) || false))) among
+
+three_more : (a b c d e f : Bool) → (c || (d || (e || false))) ≡ true → (a || (b || (c || (d || (e || (f || false)))))) ≡ true
+three_more true b c d e f h = refl
+three_more false true c d e f h = refl
+three_more false false true d e f h = refl
+three_more false false false true e f h = refl
+three_more false false false false true f h = refl
+three_more false false false false false f h = absurd (let no : false ≡ true = h in cc)
+
+pub among_refused : (s : ℕ) → is_among (2 ∷ 4 ∷ 5 ∷ []) s ≡ true → is_among (0 ∷ 1 ∷ 2 ∷ 4 ∷ 5 ∷ 7 ∷ []) s ≡ true
+among_refused s among = three_more (0 == s) (1 == s) (2 == s) (4 == s) (5 == s) (7 == s) among
+
+in_steps : (journal : List StepRec) (P : Type 0) → P → IfSteps journal ⊤ P
+in_steps [] P h = tt
+in_steps (e ∷ es) P h = h
+
+at_some : (statuses : List ℕ) (s : ℕ) (P : Type 0) → P → At statuses s P
+at_some statuses s P h = given (is_among statuses s) where
+  given : (b : Bool) → OnTrue b P
+  given true = h
+  given false = tt
+
+-- a run whose inputs were read
+pub read_run : (command : Command) (held : Option Files) (before after : List Read) (old new : Option (List ℕ)) (e : Ended) (loading : Result Loaded Refused)
+    → (i : Inputs) × AreInputs held before after command i × (loaded_of i ≡ loading) → is_among (0 ∷ 1 ∷ 2 ∷ 4 ∷ 5 ∷ 7 ∷ []) e.status ≡ true → IsEndOf loading old new e
+    → (i : Inputs) × IsRun held before after command old new e i
+read_run command held before after old new e loading (i, inputs, loads) among ends = (
+  i,
+  record {
+    inputs = at_some (0 ∷ 1 ∷ 2 ∷ 4 ∷ 7 ∷ []) e.status (AreInputs held before after command i) inputs;
+    inputs_in_steps = at_some (5 ∷ []) e.status (IfSteps e.journal ⊤ (AreInputs held before after command i)) (in_steps e.journal (AreInputs held before after command i) inputs);
+    cut = not_3 (CameTo IsCut command before after) e.status among;
+    part = at_some (5 ∷ []) e.status (CameTo IsPart command before after) (read_part command before after i inputs.1);
+    ends = subst (λ (r : Result Loaded Refused). IsEndOf r old new e) (sym loads) ends;
+  },
+)
 
 -- ---- the script was run
 

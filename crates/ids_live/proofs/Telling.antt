@@ -6,6 +6,7 @@ use Rattle.std.specs.Option.{option_map}
 use Rattle.std.proofs.lemmas.Grind.{common_steps}
 use Rattle.std.proofs.lemmas.List.{take_all}
 use Rattle.shelf_io.specs.Pieces.{Files, file_told, file_named, IsMissing}
+use Rattle.shelf_io.specs.Reads.{Read}
 use Rattle.audit_model.specs.declared.specification.Specification.{Specification}
 use Rattle.ifc_base.specs.declared.value.Instance.{Instance}
 use Rattle.ids_live.specs.declared.refused.Refused.{Refused}
@@ -89,9 +90,9 @@ not_missing None name most t e m = m
 not_missing (Some files) name most t e m = none_told (file_named (chars name) files) most t m e
 
 -- an input that was read is told as one that reads
-read_ok : {V : Type 0} (held : Option Files) (name : List ℕ) (most : ℕ) (read : Option (List ℕ) → Result V Refused) (x : V) (t : Option (List ℕ)) → Given held name most read (Ok x) → input_told held name most ≡ Some t → IsOk (read t)
+read_ok : {V : Type 0} {old new : List Read} (held : Option Files) (name : List ℕ) (most : ℕ) (read : Option (List ℕ) → Result V Refused) (x : V) (t : Option (List ℕ)) → Given held old new name most read (Ok x) → input_told held name most ≡ Some t → IsOk (read t)
 read_ok held name most read x t g e =
-    let is : g.0 ≡ t = told_is held name most g.0 t g.1 e in
+    let is : g.0 ≡ t = told_is held name most g.0 t g.1.0 e in
     let reads : read t ≡ Ok x = ap read (sym is) ∙ g.2 in
     rw reads refl
 
@@ -106,21 +107,21 @@ Comes held steady command name = (i : Inputs) → AreTold held command i → Are
 pub schema_comes : (held : Option Files) (steady : List ℕ → Type 0) (command : Command) → Comes held steady command command.schema
 schema_comes held steady command i t s = (s.schema, λ m. not_missing held command.schema limit i.schema t.schema m)
 
-pub specs_comes : (held : Option Files) (steady : List ℕ → Type 0) (command : Command) (x : Unit {0}) → Given held command.schema limit schema_read (Ok x)
+pub specs_comes : {old first : List Read} (held : Option Files) (steady : List ℕ → Type 0) (command : Command) (x : Unit {0}) → Given held old first command.schema limit schema_read (Ok x)
     → Comes held steady command command.specs
 specs_comes held steady command x f i t s =
     let a : IsOk (schema_read i.schema) = read_ok held command.schema limit schema_read x i.schema f t.schema in
     (s.specs a, λ m. not_missing held command.specs limit i.specs (t.specs a) m)
 
-pub model_comes : (held : Option Files) (steady : List ℕ → Type 0) (command : Command) (x : Unit {0}) (y : List Specification) → Given held command.schema limit schema_read (Ok x)
-    → Given held command.specs limit specs_read (Ok y) → Comes held steady command command.model
+pub model_comes : {old first second : List Read} (held : Option Files) (steady : List ℕ → Type 0) (command : Command) (x : Unit {0}) (y : List Specification) → Given held old first command.schema limit schema_read (Ok x)
+    → Given held first second command.specs limit specs_read (Ok y) → Comes held steady command command.model
 model_comes held steady command x y f f' i t s =
     let a : IsOk (schema_read i.schema) = read_ok held command.schema limit schema_read x i.schema f t.schema in
     let b : IsOk (specs_read i.specs) = read_ok held command.specs limit specs_read y i.specs f' (t.specs a) in
     (s.model a b, λ m. not_missing held command.model model_limit i.model (t.model a b) m)
 
-pub script_comes : (held : Option Files) (steady : List ℕ → Type 0) (command : Command) (x : Unit {0}) (y : List Specification) (z : List Instance) → Given held command.schema limit schema_read (Ok x)
-    → Given held command.specs limit specs_read (Ok y) → Given held command.model model_limit model_read (Ok z) → Comes held steady command command.script
+pub script_comes : {old first second third : List Read} (held : Option Files) (steady : List ℕ → Type 0) (command : Command) (x : Unit {0}) (y : List Specification) (z : List Instance) → Given held old first command.schema limit schema_read (Ok x)
+    → Given held first second command.specs limit specs_read (Ok y) → Given held second third command.model model_limit model_read (Ok z) → Comes held steady command command.script
 script_comes held steady command x y z f f' f'' i t s =
     let a : IsOk (schema_read i.schema) = read_ok held command.schema limit schema_read x i.schema f t.schema in
     let b : IsOk (specs_read i.specs) = read_ok held command.specs limit specs_read y i.specs f' (t.specs a) in

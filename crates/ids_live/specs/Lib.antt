@@ -2,6 +2,7 @@ pub mod Words
 pub mod Inputs
 pub mod Lines
 pub mod Told
+pub mod Reading
 pub mod Stops
 pub mod Steps
 pub mod Run

@@ -4,6 +4,7 @@ use Rattle.std.specs.Bool.{OnTrue}
 use Rattle.std.specs.List.{list_any}
 use Rattle.shelf_io.specs.Causes.{Rose}
 use Rattle.shelf_io.specs.Pieces.{Files, Appended}
+use Rattle.shelf_io.specs.Reads.{Read}
 use Rattle.audit_model.specs.History.{out}
 use Rattle.audit_model.specs.Machine.{Legal}
 use Rattle.audit_model.specs.declared.step.StepRec.{StepRec}
@@ -11,7 +12,8 @@ use Rattle.ids_live.specs.declared.ending.Ended.{Ended}
 use Rattle.ids_live.specs.declared.refused.Refused.{Refused}
 use Rattle.ids_live.specs.declared.load.Loaded.{Loaded}
 use Rattle.ids_live.specs.Words.{Command}
-use Rattle.ids_live.specs.Inputs.{Inputs, AreHeld, loaded_of}
+use Rattle.ids_live.specs.Inputs.{Inputs, loaded_of}
+use Rattle.ids_live.specs.Reading.{IsCut, IsPart, CameTo, AreInputs}
 use Rattle.ids_live.specs.Lines.{refused_line}
 use Rattle.serial_run.specs.Growth.{returned}
 use Rattle.serial_run.specs.Phased.{ArePhases}
@@ -63,12 +65,16 @@ pub record IsEndOf (loading : Result Loaded Refused) (old new : Option (List ℕ
   -- at 5 memory was wanting before the first step, or in the run
   pub memory : At (5 ∷ []) ended.status (IfSteps ended.journal (new ≡ old) (MatchResult loading (λ l. IsLeft (ground_of l) l.phases old new ended.journal) (λ refused. ⊥)))
 
--- The run of a command over inputs.
-pub record IsRun (held : Option Files) (command : Command) (old new : Option (List ℕ)) (ended : Ended) (i : Inputs) : Type 0 where
-  -- each input, up to the first that is refused, is what the shelf holds
-  pub inputs : At (0 ∷ 1 ∷ 2 ∷ 4 ∷ 7 ∷ []) ended.status (AreHeld held command i)
+-- The run of a command over inputs. `before` and `after` are the log of the shelf.
+pub record IsRun (held : Option Files) (before after : List Read) (command : Command) (old new : Option (List ℕ)) (ended : Ended) (i : Inputs) : Type 0 where
+  -- each input, up to the first that is refused, is what the shelf holds and was read in its turn, and nothing else was read
+  pub inputs : At (0 ∷ 1 ∷ 2 ∷ 4 ∷ 7 ∷ []) ended.status (AreInputs held before after command i)
   -- at 5 too, where a step was made
-  pub inputs_in_steps : At (5 ∷ []) ended.status (IfSteps ended.journal ⊤ (AreHeld held command i))
+  pub inputs_in_steps : At (5 ∷ []) ended.status (IfSteps ended.journal ⊤ (AreInputs held before after command i))
+  -- at 3 a read of an input failed, which was the last read
+  pub cut : At (3 ∷ []) ended.status (CameTo IsCut command before after)
+  -- at 5 no more was read than some of the inputs in their turn
+  pub part : At (5 ∷ []) ended.status (CameTo IsPart command before after)
   pub ends : IsEndOf (loaded_of i) old new ended
 
 -- nothing was done and nothing written

@@ -46,3 +46,10 @@ pub record StaysSteady {V : Type 0} (steady after : List ℕ → Type 0) (before
   pub stays : (name : List ℕ) → steady name → after name
   pub calm : UnlessShelf answer (faults ≡ before)
   pub sure : OnShelf answer cause
+
+-- One thing is so where the shelf was at fault, and another where memory was wanting.
+abbrev pub Stopped : {V : Type 0} → Type 0 → Type 0 → Result V Stop → Type 0
+Stopped cut part (Err stop.Shelf) = cut
+Stopped cut part (Err stop.Memory) = part
+Stopped cut part (Err (stop.Refused refused)) = ⊤
+Stopped cut part (Ok value) = ⊤

@@ -6,8 +6,10 @@ ghost use Rattle.audit_model.specs.ScriptOrder.{AreOrderly};
 ghost use Rattle.audit_model.specs.Specifications.{AreSpecifications};
 ghost use Rattle.shelf_io.specs.Pieces.{IsMissing};
 ghost use Rattle.ids_live.specs.Fitness.{IsFit};
-ghost use Rattle.ids_live.specs.Inputs.{Inputs, IsHeld, AreHeld, limit, model_limit, past_mark, schema_read, specs_read, model_read, script_read, loaded_of};
-ghost use Rattle.ids_live.specs.Stops.{Reads, LeavesShelf, StaysSteady, IsOutside};
+ghost use Rattle.ids_live.specs.Inputs.{limit, model_limit, past_mark};
+ghost use Rattle.ids_live.specs.Inputs.{schema_read, specs_read, model_read, script_read, loaded_of};
+ghost use Rattle.ids_live.specs.Reading.{CameTo, IsCut, IsPart, IsInput, AreInputs};
+ghost use Rattle.ids_live.specs.Stops.{Reads, LeavesShelf, StaysSteady, IsOutside, Stopped};
 ghost use Rattle.ids_live.specs.Told.{IsUnsteady};
 ghost use Rattle.ids_live.specs.Words.{command_shown};
 
@@ -45,7 +47,10 @@ pub fn load<S: Shelf>(alloc: Global, shelf: &mut S, names: Names) -> Result<Load
         (S.faults shelf.new) result }
     ensures steady { StaysSteady (S.steady shelf.old) (S.steady shelf.new) (S.faults shelf.old)
         (S.faults shelf.new) (IsUnsteady (S.held shelf.old) (S.steady shelf.old) (command_shown names.entry)) result }
-    ensures reads { Reads (AreHeld (S.held shelf.old) (command_shown names.entry)) loaded_of result }
+    ensures reads { Reads (AreInputs (S.held shelf.old) (S.reads shelf.old) (S.reads shelf.new)
+        (command_shown names.entry)) loaded_of result }
+    ensures stopped { Stopped (CameTo IsCut (command_shown names.entry) (S.reads shelf.old) (S.reads shelf.new))
+        (CameTo IsPart (command_shown names.entry) (S.reads shelf.old) (S.reads shelf.new)) result }
     ensures fit { IfOk result IsFit }
 {
     load_schema(alloc, shelf, names.schema)?;
@@ -65,7 +70,10 @@ fn load_schema<S: Shelf>(alloc: Global, shelf: &mut S, name: &str) -> Result<(),
         (S.faults shelf.new) result }
     ensures steady { StaysSteady (S.steady shelf.old) (S.steady shelf.new) (S.faults shelf.old)
         (S.faults shelf.new) (S.steady shelf.old (chars name.now) → IsMissing (S.held shelf.old) (chars name.now)) result }
-    ensures reads { Reads (IsHeld (S.held shelf.old) name.now limit) schema_read result }
+    ensures reads { Reads (IsInput (S.held shelf.old) (S.reads shelf.old) (S.reads shelf.new) name.now limit)
+        schema_read result }
+    ensures stopped { Stopped (IsCut name.now limit (S.reads shelf.old) (S.reads shelf.new))
+        (IsPart name.now limit (S.reads shelf.old) (S.reads shelf.new)) result }
 {
     match whole_input(alloc, shelf, name, LIMIT)? {
         Some(_) => Ok(()),
@@ -78,7 +86,10 @@ fn load_specs<S: Shelf>(alloc: Global, shelf: &mut S, name: &str) -> Result<Spec
         (S.faults shelf.new) result }
     ensures steady { StaysSteady (S.steady shelf.old) (S.steady shelf.new) (S.faults shelf.old)
         (S.faults shelf.new) (S.steady shelf.old (chars name.now) → IsMissing (S.held shelf.old) (chars name.now)) result }
-    ensures reads { Reads (IsHeld (S.held shelf.old) name.now limit) specs_read result }
+    ensures reads { Reads (IsInput (S.held shelf.old) (S.reads shelf.old) (S.reads shelf.new) name.now limit)
+        specs_read result }
+    ensures stopped { Stopped (IsCut name.now limit (S.reads shelf.old) (S.reads shelf.new))
+        (IsPart name.now limit (S.reads shelf.old) (S.reads shelf.new)) result }
     ensures fit { IfOk result AreSpecifications }
 {
     let Some(bytes) = whole_input(alloc, shelf, name, LIMIT)? else {
@@ -96,7 +107,10 @@ fn load_model<S: Shelf>(alloc: Global, shelf: &mut S, name: &str) -> Result<Inst
         (S.faults shelf.new) result }
     ensures steady { StaysSteady (S.steady shelf.old) (S.steady shelf.new) (S.faults shelf.old)
         (S.faults shelf.new) (S.steady shelf.old (chars name.now) → IsMissing (S.held shelf.old) (chars name.now)) result }
-    ensures reads { Reads (IsHeld (S.held shelf.old) name.now model_limit) model_read result }
+    ensures reads { Reads (IsInput (S.held shelf.old) (S.reads shelf.old) (S.reads shelf.new) name.now model_limit)
+        model_read result }
+    ensures stopped { Stopped (IsCut name.now model_limit (S.reads shelf.old) (S.reads shelf.new))
+        (IsPart name.now model_limit (S.reads shelf.old) (S.reads shelf.new)) result }
     ensures distinct { IfOk result HasDistinctIds }
     ensures few { IfOk result (λ instances. length instances ≤ 2000000) }
 {
@@ -115,7 +129,10 @@ fn load_script<S: Shelf>(alloc: Global, shelf: &mut S, name: &str) -> Result<Pha
         (S.faults shelf.new) result }
     ensures steady { StaysSteady (S.steady shelf.old) (S.steady shelf.new) (S.faults shelf.old)
         (S.faults shelf.new) (S.steady shelf.old (chars name.now) → IsMissing (S.held shelf.old) (chars name.now)) result }
-    ensures reads { Reads (IsHeld (S.held shelf.old) name.now limit) script_read result }
+    ensures reads { Reads (IsInput (S.held shelf.old) (S.reads shelf.old) (S.reads shelf.new) name.now limit)
+        script_read result }
+    ensures stopped { Stopped (IsCut name.now limit (S.reads shelf.old) (S.reads shelf.new))
+        (IsPart name.now limit (S.reads shelf.old) (S.reads shelf.new)) result }
     ensures order { IfOk result (AreOrderly 1) }
 {
     let Some(bytes) = whole_input(alloc, shelf, name, LIMIT)? else {
@@ -141,7 +158,10 @@ fn whole_input<S: Shelf>(
         (S.faults shelf.new) result }
     ensures steady { StaysSteady (S.steady shelf.old) (S.steady shelf.new) (S.faults shelf.old)
         (S.faults shelf.new) (S.steady shelf.old (chars name.now) → IsMissing (S.held shelf.old) (chars name.now)) result }
-    ensures held { IfOk result (IsHeld (S.held shelf.old) name.now most) }
+    ensures input { IfOk result
+        (IsInput (S.held shelf.old) (S.reads shelf.old) (S.reads shelf.new) name.now most) }
+    ensures stopped { Stopped (IsCut name.now most (S.reads shelf.old) (S.reads shelf.new))
+        (IsPart name.now most (S.reads shelf.old) (S.reads shelf.new)) result }
     ensures outside { IfErr result IsOutside }
 {
     let bytes = read_all(alloc, shelf, name, most + 1)?;

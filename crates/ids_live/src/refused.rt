@@ -52,7 +52,8 @@ fn push_too_long(line: &mut Vec<u8>, input: Input) -> Result<(), Memory>
 
 fn push_ids_fault(line: &mut Vec<u8>, fault: IdsFault) -> Result<(), Memory>
     ensures { OnOk result (line.new.items ≡ line.old.items ++
-        (codes "refused specs spec " ++ decimal fault.spec ++ codes " place " ++ decimal fault.place ++ cause_word fault.why ++ codes "\n")) }
+        (codes "refused specs spec " ++ decimal fault.spec ++ codes " place " ++ decimal fault.place
+        ++ cause_word fault.why ++ codes "\n")) }
 {
     push_text(line, "refused specs spec ")?;
     push_decimal(line, u64::from(fault.spec))?;

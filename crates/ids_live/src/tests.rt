@@ -6,14 +6,19 @@ use std::process::Abort;
 use std::test::Fail;
 
 /// Specifications of one entity in the applicability and one in the requirement.
-const WALLS: &str =
-    "{\"specifications\":[{\"name\":\"walls\",\"ifcVersion\":[\"IFC4\"],\n\"applicability\":{\"minOccurs\":\"0\",\"maxOccurs\":\"unbounded\",\"facets\":[{\"facet\":\"entity\",\"name\":{\"simpleValue\":\"IFCWALL\"}}]},\n\"requirements\":[{\"facet\":\"entity\",\"name\":{\"simpleValue\":\"IFCWALL\"}}]}]}\n";
+const WALLS: &str = "{\"specifications\":[{\"name\":\"walls\",\"ifcVersion\":[\"IFC4\"],\n\
+     \"applicability\":{\"minOccurs\":\"0\",\"maxOccurs\":\"unbounded\",\
+     \"facets\":[{\"facet\":\"entity\",\"name\":{\"simpleValue\":\"IFCWALL\"}}]},\n\
+     \"requirements\":[{\"facet\":\"entity\",\"name\":{\"simpleValue\":\"IFCWALL\"}}]}]}\n";
 
-const GROUPS: &str =
-    "{\"specifications\":[{\"name\":\"walls\",\"ifcVersion\":[\"IFC4\"],\n\"applicability\":{\"minOccurs\":\"0\",\"maxOccurs\":\"unbounded\",\"facets\":[{\"facet\":\"entity\",\"name\":{\"simpleValue\":\"IFCWALL\"}}]},\n\"requirements\":[{\"facet\":\"entity\",\"name\":{\"simpleValue\":\"IFCGROUP\"}}]}]}\n";
+const GROUPS: &str = "{\"specifications\":[{\"name\":\"walls\",\"ifcVersion\":[\"IFC4\"],\n\
+     \"applicability\":{\"minOccurs\":\"0\",\"maxOccurs\":\"unbounded\",\
+     \"facets\":[{\"facet\":\"entity\",\"name\":{\"simpleValue\":\"IFCWALL\"}}]},\n\
+     \"requirements\":[{\"facet\":\"entity\",\"name\":{\"simpleValue\":\"IFCGROUP\"}}]}]}\n";
 
 const HEADER: &str =
-    "ISO-10303-21;\nHEADER;\nFILE_DESCRIPTION((''),'2;1');\nFILE_NAME('','',(''),(''),'','','');\nFILE_SCHEMA(('IFC4'));\nENDSEC;\nDATA;\n";
+    "ISO-10303-21;\nHEADER;\nFILE_DESCRIPTION((''),'2;1');\nFILE_NAME('','',(''),(''),'','','');\n\
+     FILE_SCHEMA(('IFC4'));\nENDSEC;\nDATA;\n";
 
 const TWO_WALLS: &str =
     "#10=IFCWALL('a',$,'W01',$,$,$,$,$,$);\n#11=IFCWALL('b',$,'W02',$,$,$,$,$,$);\n";
@@ -113,7 +118,8 @@ const TWICE: &str =
     "report 0\nspec 1 pass applicable 2 failed 0\nend pass\nreport 0\nspec 1 pass applicable 2 failed 0\nend pass\n";
 
 const CHANGED_BACK: &str =
-    "1 take 1 #10 0\n1 open 0\n1 commit 1\n1 open 1\n1 commit 2\n1 give stale inst #10 2\nreport 2\nspec 1 pass applicable 2 failed 0\nend pass\n";
+    "1 take 1 #10 0\n1 open 0\n1 commit 1\n1 open 1\n1 commit 2\n1 give stale inst #10 2\nreport 2\n\
+     spec 1 pass applicable 2 failed 0\nend pass\n";
 
 const UNRELATED: &str =
     "1 take 1 #10 0\n1 open 0\n1 commit 1\n1 give used\nreport 1\nspec 1 pass applicable 1 failed 0\nend pass\n";
@@ -121,19 +127,23 @@ const UNRELATED: &str =
 const HELD_BACK: &str = "1 pending 1 #10\nreport 0\nspec 1 pass applicable 2 failed 0\nend pass\n";
 
 const ADDED: &str =
-    "report 0\nspec 1 pass applicable 2 failed 0\nend pass\n1 open 0\n1 commit 1\nreport 1\nspec 1 pass applicable 2 failed 0\nend pass\n";
+    "report 0\nspec 1 pass applicable 2 failed 0\nend pass\n1 open 0\n1 commit 1\nreport 1\n\
+     spec 1 pass applicable 2 failed 0\nend pass\n";
 
 const REFUSED: &str =
     "1 open 0\n1 refused 2 taken #10\n1 open 0\n1 refused 1 missing #20\nreport 0\nspec 1 pass applicable 2 failed 0\nend pass\n";
 
 const PUBLISHED: &str =
-    "1 take 1 #10 0\n1 give used\n1 take 1 #11 0\n1 give used\n1 idle\n1 published\nreport 0\nspec 1 pass applicable 2 failed 0\nend pass\nreport 0\nspec 1 pass applicable 2 failed 0\nend pass\n";
+    "1 take 1 #10 0\n1 give used\n1 take 1 #11 0\n1 give used\n1 idle\n1 published\nreport 0\n\
+     spec 1 pass applicable 2 failed 0\nend pass\nreport 0\nspec 1 pass applicable 2 failed 0\nend pass\n";
 
 const IDLE: &str =
-    "1 take 1 #10 0\n1 give used\n1 take 1 #11 0\n1 give used\n1 idle\n1 idle\nreport 0\nspec 1 pass applicable 2 failed 0\nend pass\n";
+    "1 take 1 #10 0\n1 give used\n1 take 1 #11 0\n1 give used\n1 idle\n1 idle\nreport 0\n\
+     spec 1 pass applicable 2 failed 0\nend pass\n";
 
 const FAILED_TWICE: &str =
-    "report 0\nspec 1 fail applicable 2 failed 2\nfail #10 1\nfail #11 1\nend fail\n1 open 0\n1 commit 1\nreport 1\nspec 1 fail applicable 1 failed 1\nfail #11 1\nend fail\n";
+    "report 0\nspec 1 fail applicable 2 failed 2\nfail #10 1\nfail #11 1\nend fail\n1 open 0\n\
+     1 commit 1\nreport 1\nspec 1 fail applicable 1 failed 1\nfail #11 1\nend fail\n";
 
 const ROWS: [Row; 24] = [
     Row {

@@ -1,17 +1,19 @@
 -- What has been read or written so far.
-use Rattle.std.proofs.Common.{◌≡◌, ℕ, ◌+◌, ◌-◌, ◌≤◌, List, ◌++◌, length, take, drop, Option, refl, ap, sym, ◌∙◌, arith, length-append, append_assoc}
+use Rattle.std.proofs.Common.{◌≡◌, ℕ, ◌+◌, ◌-◌, ◌≤◌, ◌<◌, nat_lt, true, false, List, [], ◌∷◌, ◌++◌, length, take, drop, Option, refl, ap, sym, ◌∙◌, arith, length-append, append_assoc}
 use Rattle.std.specs.Prelude.{Some, None, IfSome}
 use Rattle.std.specs.Option.{ForSome}
 use Rattle.std.proofs.Math.Seq.{take-add}
 use Rattle.std.proofs.lemmas.List.{take-append-le, take_all}
 use Rattle.std.proofs.lemmas.Grind.{common_steps}
 use Rattle.shelf_io.specs.Pieces.{Files, file_told, IsMissing, IsPiece, IsFront, Appended}
+use Rattle.shelf_io.specs.Reads.{Read, HasGiven, IsWhole}
 
--- the bytes are the front of what the shelf tells, which stays; no read has failed, none of a missing file
--- has gone well, and the shelf has stayed steady where it was
-pub record HasRead (held now : Option Files) (name bytes : List ℕ) (most before faults : ℕ) (was is : List ℕ → Type 0) : Type 0 where
+-- the bytes are the front of what the shelf tells, which stays, and what its reads gave; no read has failed, none of a
+-- missing file has gone well, and the shelf has stayed steady where it was
+pub record HasRead (held now : Option Files) (old log : List Read) (name bytes : List ℕ) (most before faults : ℕ) (was is : List ℕ → Type 0) : Type 0 where
   pub same : now ≡ held
   pub bound : length bytes ≤ most
+  pub given : HasGiven name most old log bytes
   pub front : ForSome (file_told held name) (λ all. IsFront bytes all)
   pub missing : IsMissing held name → length bytes ≡ 0
   pub calm : faults ≡ before
@@ -44,6 +46,30 @@ read_step all bytes next into rest from n front piece here room made =
     let more : length (take n (into ++ rest)) ≡ n = grind (arith, common_steps) in
     let whole : length next ≡ length bytes + n = rw (made, length-append, more) refl in
     rw (whole, take-add, front, ← got) (sym made)
+
+-- one more read that gave some bytes
+pub given_more : {name : List ℕ} {most : ℕ} {old now new : List Read} (bytes next into rest : List ℕ) (from n : ℕ) → HasGiven name most old now bytes → from ≡ length bytes → length bytes < most → 0 < n → n ≤ length into
+    → new ≡ (name, from, Some (take n into)) ∷ now → next ≡ bytes ++ take n (into ++ rest) → HasGiven name most old new next
+given_more {name} bytes next into rest from n (reads, given, went) here more some room noted made =
+    let whole : length (take n into) ≡ n = grind (arith, common_steps) in
+    let piece : take n (into ++ rest) ≡ take n into = take-append-le n into rest room in (
+      (name, length bytes, Some (take n into)) ∷ reads,
+      (bytes, take n into, given, more, rw whole some, refl, rw (made, piece) refl),
+      rw (noted, here, went) refl,
+    )
+
+-- a read that gave nothing ends it
+pub given_whole : {name : List ℕ} {most : ℕ} {old now new : List Read} (bytes into : List ℕ) (from n : ℕ) → HasGiven name most old now bytes → from ≡ length bytes → length bytes < most → n ≡ 0
+    → new ≡ (name, from, Some (take n into)) ∷ now → IsWhole name most old new bytes
+given_whole {name} {most} {old} {now} bytes into from n given here more none noted =
+    let fewer : nat_lt (length bytes) most ≡ true = grind (arith, common_steps) in
+    (now, given, rw (fewer, noted, here, none) refl)
+
+-- and so does having as many as are wanted
+pub given_most : {name : List ℕ} {most : ℕ} {old now : List Read} (bytes : List ℕ) → HasGiven name most old now bytes → most ≤ length bytes → IsWhole name most old now bytes
+given_most {name} {most} {old} {now} bytes given full =
+    let enough : nat_lt (length bytes) most ≡ false = grind (arith, common_steps) in
+    (now, given, rw enough refl)
 
 -- a front that is as long as the whole is the whole
 pub front_whole : (all bytes : List ℕ) (most : ℕ) → IsFront bytes all → length all ≤ length bytes → length bytes ≤ most → bytes ≡ take most all

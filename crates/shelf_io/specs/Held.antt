@@ -7,6 +7,7 @@ use Rattle.shelf_io.specs.declared.mem_shelf.ShelfFile.{ShelfFile}
 use Rattle.shelf_io.specs.declared.mem_shelf.MemShelf.{MemShelf}
 use Rattle.shelf_io.specs.Causes.{next_count}
 use Rattle.shelf_io.specs.Pieces.{Files}
+use Rattle.shelf_io.specs.Reads.{Read}
 
 -- a file as a shelf tells it: the characters of its name, and its bytes
 abbrev pub entry_of : ShelfFile → List ℕ × List ℕ
@@ -23,6 +24,10 @@ entries shelf = map entry_of shelf.files.items
 -- how often the shelf has failed
 abbrev pub shelf_faults : MemShelf → ℕ
 shelf_faults shelf = shelf.faults
+
+-- what the shelf was asked for and what it answered, the newest read first
+abbrev pub shelf_reads : MemShelf → List Read
+shelf_reads shelf = shelf.log.reads
 
 -- whether the file has this name
 abbrev pub has_name : List ℕ → ShelfFile → Bool

@@ -10,6 +10,8 @@
 mod gate;
 mod mem_shelf;
 mod mem_sink;
+mod read_log;
+mod read_note;
 mod real;
 mod traits;
 mod whole;
@@ -17,6 +19,7 @@ mod whole;
 pub use gate::{FreeGate, Gate, Point};
 pub use mem_shelf::{MemShelf, ShelfFile};
 pub use mem_sink::MemSink;
+pub use read_log::ReadLog;
 pub use real::{FileShelf, OutSink};
 pub use traits::{Failed, Shelf, Sink};
 pub use whole::{read_all, write_all};

@@ -6,6 +6,7 @@ ghost use Rattle.shelf_io.specs.Pieces.{file_named, IsPiece};
 ghost use Rattle.shelf_io.specs.Held.{entry_of, has_name, IsFirst, readable, read_once, read_first, fails_next, reads_well};
 
 use crate::mem_sink::is_listed;
+use crate::read_log::ReadLog;
 use crate::traits::{Failed, Shelf};
 use ifc_base::{Bytes, Name, Numbers};
 
@@ -25,22 +26,29 @@ pub struct ShelfFile {
 /// A shelf in memory, for tests. It tells what it holds, reads as much as there is room for, and fails
 /// at the reads that each file lists and where a file is missing. Of two files of one name the first
 /// counts.
-#[derive(Debug, Drop)]
+#[derive(Drop)]
 pub struct MemShelf {
     files: Vec<ShelfFile>,
     faults: u64,
+    log: ReadLog,
 }
 
 impl MemShelf {
-    ghost use Rattle.shelf_io.specs.Held.{shelf_files, entries, shelf_faults};
+    ghost use Rattle.std.specs.Prelude.{[]};
+    ghost use Rattle.shelf_io.specs.Held.{shelf_files, entries, shelf_faults, shelf_reads};
 
-    /// The shelf with these files and no fault so far. It takes no memory. `O(1)`.
+    /// The shelf with these files, no read and no fault so far. It takes no memory. `O(1)`.
     pub fn new(files: Vec<ShelfFile>) -> MemShelf
         ensures kept { shelf_files result ≡ files.items }
         ensures files { entries result ≡ map entry_of files.items }
         ensures faults { shelf_faults result ≡ 0 }
+        ensures reads { shelf_reads result ≡ [] }
     {
-        MemShelf { files, faults: 0 }
+        MemShelf {
+            files,
+            faults: 0,
+            log: ReadLog::new(),
+        }
     }
 }
 
@@ -108,12 +116,15 @@ fn read_named(
 
 /// A read costs `O(f + n)` for `f` files and `n` bytes read.
 impl Shelf for MemShelf {
-    ghost use Rattle.std.specs.Prelude.{ℕ, List, Some, IsErr, OnOk, OnErr, IfSome};
+    ghost use Rattle.std.specs.Prelude.{ℕ, List, ◌∷◌, Some, IsErr, OnOk, OnErr, IfSome};
     ghost use Rattle.shelf_io.specs.Causes.{HasCause, next_count};
     ghost use Rattle.shelf_io.specs.Pieces.{file_told, IsMissing};
-    ghost use Rattle.shelf_io.specs.Held.{shelf_files, entries, shelf_faults, reads_well, read_first, readable, IsSteady};
+    ghost use Rattle.shelf_io.specs.Reads.{answered};
+    ghost use Rattle.shelf_io.specs.Held.{shelf_files, entries, shelf_faults, shelf_reads, reads_well, read_first, readable, IsSteady};
 
     ghost held = { λ s. Some (entries s) };
+
+    ghost reads = { shelf_reads };
 
     ghost faults = { shelf_faults };
 
@@ -121,6 +132,7 @@ impl Shelf for MemShelf {
 
     fn read_at(&mut self, name: &str, from: u64, into: &mut [u8]) -> Result<usize, Failed>
         ensures held { Some (entries self.new) ≡ Some (entries self.old) }
+        ensures reads { shelf_reads self.new ≡ (chars name.now, from, answered result into.new) ∷ shelf_reads self.old }
         ensures bound { IfOk result (λ n. n ≤ length into.new) }
         ensures bytes { IfOk result (λ n. IfSome (file_told (Some (entries self.old)) (chars name.now))
             (λ bytes. IsPiece bytes from n into.new)) }
@@ -140,6 +152,7 @@ impl Shelf for MemShelf {
         ensures once { OnErr result (shelf_faults self.new ≡ next_count (shelf_faults self.old)) }
     {
         let answer = read_named(self.files.as_mut_slice(), name, from, into);
+        self.log = self.log.after(name, from, answer, into);
         if answer.is_err() {
             self.faults = self.faults.saturating_add(1);
         }

@@ -1,5 +1,6 @@
 ghost use Rattle.std.specs.Prelude.{◌≡◌, ◌≤◌, None, length, IfOk};
 
+use crate::read_log::ReadLog;
 use crate::traits::{Failed, Shelf, Sink};
 use ifc_base::Name;
 use std::fs::File;
@@ -15,6 +16,7 @@ pub struct FileShelf {
     rt: HostRuntime,
     last: Option<OpenFile>,
     faults: u64,
+    log: ReadLog,
 }
 
 /// A file that is open, and the path by which it was opened.
@@ -25,16 +27,19 @@ struct OpenFile {
 }
 
 impl FileShelf {
-    ghost use Rattle.shelf_io.specs.Real.{file_faults};
+    ghost use Rattle.std.specs.Prelude.{[]};
+    ghost use Rattle.shelf_io.specs.Real.{file_faults, file_reads};
 
-    /// The shelf over this runtime, with no fault so far. It takes no memory. `O(1)`.
+    /// The shelf over this runtime, with no read and no fault so far. It takes no memory. `O(1)`.
     pub fn new(rt: HostRuntime) -> FileShelf
-        ensures { file_faults result ≡ 0 }
+        ensures faults { file_faults result ≡ 0 }
+        ensures reads { file_reads result ≡ [] }
     {
         FileShelf {
             rt,
             last: None,
             faults: 0,
+            log: ReadLog::new(),
         }
     }
 }
@@ -66,21 +71,25 @@ fn read_open(
 
 /// A read asks the system once, and opens the file first where it isn't the one that was read last.
 impl Shelf for FileShelf {
-    ghost use Rattle.shelf_io.specs.Real.{file_faults};
+    ghost use Rattle.shelf_io.specs.Real.{file_faults, file_reads};
 
     ghost held = { λ _. None };
+
+    ghost reads = { file_reads };
 
     ghost faults = { file_faults };
 
     fn read_at(&mut self, name: &str, from: u64, into: &mut [u8]) -> Result<usize, Failed> {
-        match read_open(&self.rt, &mut self.last, name, from, into) {
+        let answer = match read_open(&self.rt, &mut self.last, name, from, into) {
             Ok(count) => Ok(count),
             Err(_) => {
                 self.last = None;
                 self.faults = self.faults.saturating_add(1);
                 Err(Failed)
             }
-        }
+        };
+        self.log = self.log.after(name, from, answer, into);
+        answer
     }
 }
 

@@ -1,7 +1,8 @@
-ghost use Rattle.std.specs.Prelude.{◌≡◌, ◌≤◌, ◌+◌, ℕ, List, Option, length, take, IfOk, IfSome, IsErr, IsOk, OnOk, MatchResult};
+ghost use Rattle.std.specs.Prelude.{◌≡◌, ◌≤◌, ◌+◌, ℕ, List, ◌∷◌, Option, length, take, IfOk, IfSome, IsErr, IsOk, OnOk, MatchResult};
 ghost use Rattle.std.specs.Str.{chars};
 ghost use Rattle.shelf_io.specs.Causes.{HasCause};
 ghost use Rattle.shelf_io.specs.Pieces.{Files, file_told, IsMissing, IsPiece, IsTaken, Appended};
+ghost use Rattle.shelf_io.specs.Reads.{Read, answered};
 
 /// A read or a write that failed.
 #[derive(Clone, Copy, Debug, PartialEq, Eq)]
@@ -9,11 +10,15 @@ pub struct Failed;
 
 /// Files by name, of which the bytes can be read in pieces.
 ///
-/// A shelf says what it holds, or `None` where it doesn't tell; how many faults it has had, at most
-/// 2^64 - 1; and at which names it is steady, which a shelf that promises nothing leaves at its default.
+/// A shelf says what it holds, or `None` where it doesn't tell; what it was asked for and what it
+/// answered, which a `ReadLog` keeps for it; how many faults it has had, at most 2^64 - 1; and at which
+/// names it is steady, which a shelf that promises nothing leaves at its default.
 pub trait Shelf {
     /// What the shelf holds, where it tells.
     ghost held: { Self → Option Files };
+
+    /// Each read so far with its answer, the newest first.
+    ghost reads: { Self → List Read };
 
     /// How often it has failed.
     ghost faults: { Self → ℕ };
@@ -27,6 +32,7 @@ pub trait Shelf {
     /// buffer behind the bytes that were read, or after `Failed`, isn't said.
     fn read_at(&mut self, name: &str, from: u64, into: &mut [u8]) -> Result<usize, Failed>
         ensures held { held self.new ≡ held self.old }
+        ensures reads { reads self.new ≡ (chars name.now, from, answered result into.new) ∷ reads self.old }
         ensures bound { IfOk result (λ n. n ≤ length into.new) }
         ensures bytes { IfOk result (λ n. IfSome (file_told (held self.old) (chars name.now))
             (λ bytes. IsPiece bytes from n into.new)) }

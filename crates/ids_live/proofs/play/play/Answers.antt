@@ -1,6 +1,4 @@
-use Rattle.std.proofs.Common.{◌≡◌, ◌∙◌, ap, sym, refl, length, Ok}
-use Rattle.audit_model.specs.History.{Ground}
-use Rattle.ids_live.specs.Complete.{wanted}
+use Rattle.std.proofs.Common.{◌≡◌, refl, Ok}
 use Rattle.ids_live.specs.Steps.{ground_of}
 use Rattle.ids_live.proofs.Ends.{at_4, early_end, few_requirements, never_unwritten, no_more, play_end, sink_after, wanted_text}
 use Rattle.ids_live.proofs.play.play.Goals as goal

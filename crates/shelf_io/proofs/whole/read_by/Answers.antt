@@ -1,6 +1,7 @@
-use Rattle.std.proofs.Common.{rules, ◌∙◌}
+use Rattle.std.proofs.Common.{rules, ◌∙◌, refl, [], ◌++◌, take}
 use Rattle.std.specs.Str.{chars}
-use Rattle.shelf_io.proofs.Progress.{read_step, front_whole, front_full, piece_at, IfSome-from_ForSome, missing_stays}
+use Rattle.shelf_io.proofs.Progress.{given_more, given_whole, given_most, read_step, front_whole, front_full, piece_at, IfSome-from_ForSome, missing_stays}
+use Rattle.std.proofs.lemmas.Result.{err_from_is_err_and}
 use Rattle.shelf_io.proofs.whole.read_by.Goals as goal
 use Rattle.shelf_io.proofs.whole.read_by.Goals.{else-loop-bytes-test, then-loop-bytes-test+in-Ok+then-count-eq0}
 
@@ -8,6 +9,8 @@ pub loop-bytes-preserved : goal.loop-bytes-preserved
 loop-bytes-preserved g c = record {
   same = search rules;
   bound = search rules;
+  given = given_more c.loop-bytes.bytes.items c.extend_from_slice.new.self.items c.read_at.new.into _ c.len-in-loop-bytes-2.result c.in-Ok.count
+      c.loop-bytes.invariant.given (search rules) (search rules) (search rules) c.in-Ok.ensures.bound c.in-Ok.ensures.reads c.in_ok-extend_from_slice.ensures.items;
   front = λ all e.
       let piece = piece_at (g.S.Shelf.held c.args.shelf.now) (g.S.Shelf.held c.loop-bytes.shelf) (chars c.args.name.now) all
       c.len-in-loop-bytes-2.result c.in-Ok.count c.read_at.new.into c.loop-bytes.invariant.same e c.in-Ok.ensures.bytes in
@@ -28,3 +31,19 @@ returns-clause-bytes g c = elim c.loop-bytes-test.branch [
       c.from_vec.ensures ∙ front_whole all c.loop-bytes.bytes.items c.args.most (c.loop-bytes.invariant.front all e)
       (let ended = piece.ended (search rules) w.if-count-eq0.true in search rules) c.loop-bytes.invariant.bound)
 ]
+
+pub returns-clause-reads : goal.returns-clause-reads
+returns-clause-reads g c = elim c.loop-bytes-test.branch [
+  | else-loop-bytes-test w ↦ rw (c.from_vec.ensures, w.shelf-is) (given_most c.loop-bytes.bytes.items c.loop-bytes.invariant.given (search rules))
+  | then-loop-bytes-test+in-Ok+then-count-eq0 w ↦ rw (c.from_vec.ensures, w.shelf-is) (given_whole c.loop-bytes.bytes.items w.read_at.new.into _ w.in-Ok.count
+      c.loop-bytes.invariant.given (search rules) (search rules) w.if-count-eq0.true w.in-Ok.ensures.reads)
+]
+
+pub returns-in_err-extend_from_slice-clause-reads : goal.returns-in_err-extend_from_slice-clause-reads
+returns-in_err-extend_from_slice-clause-reads g c =
+    let p = err_from_is_err_and c.from_residual.result c.from_residual.ensures.1 in
+    rw (p.1, p.2) (
+      c.loop-bytes.bytes.items ++ take c.in-Ok.count (c.read_at.new.into ++ []),
+      given_more c.loop-bytes.bytes.items _ c.read_at.new.into [] c.len-in-loop-bytes-2.result c.in-Ok.count
+          c.loop-bytes.invariant.given (search rules) (search rules) (search rules) c.in-Ok.ensures.bound c.in-Ok.ensures.reads refl,
+    )

@@ -1,6 +1,7 @@
 //! Laws of the definitions. Each function does nothing: its contract is the law.
 ghost use Rattle.audit_model.specs.Drain.{DrainFollows, DrainOfFile};
-ghost use Rattle.audit_model.specs.Laws.{CallsDetermine, CommitsAreNumbered, DanglingIsLeast, EarlierModelsStay, LastChangeIsLast};
+ghost use Rattle.audit_model.specs.Laws.{CallsDetermine, CommitsAreNumbered, DanglingIsLeast};
+ghost use Rattle.audit_model.specs.Laws.{EarlierModelsStay, LastChangeIsLast};
 ghost use Rattle.audit_model.specs.Laws.{ModelsAscend, NeedsCoverVerdict, OneReply, PairsAscend};
 ghost use Rattle.audit_model.specs.Laws.{RefusedChangesNothing, SettledByDelivery, SettledIsPair};
 

@@ -64,9 +64,10 @@ fn faults_of_strings(rt: HostRuntime) -> Result<(), Fail> {
     Ok(())
 }
 
+/// Bytes that end before the value does.
 #[test]
-fn faults_of_values(rt: HostRuntime) -> Result<(), Fail> {
-    let cases: [(&[u8], u32, P21Cause); 34] = [
+fn faults_of_unended_values(rt: HostRuntime) -> Result<(), Fail> {
+    let cases: [(&[u8], u32, P21Cause); 10] = [
         (b"", 1, Why::NoEnd),
         (b"\n\n", 3, Why::NoEnd),
         (b"/* a\nb */\n", 3, Why::NoEnd),
@@ -77,6 +78,16 @@ fn faults_of_values(rt: HostRuntime) -> Result<(), Fail> {
         (b"A\n", 2, Why::NoEnd),
         (b"(\n\"0", 2, Why::Unclosed),
         (b"\"", 1, Why::Unclosed),
+    ];
+    for (bytes, line, why) in cases {
+        expect_fault(rt.alloc(), read_value(rt.alloc(), bytes).err(), line, why)?;
+    }
+    Ok(())
+}
+
+#[test]
+fn faults_of_values(rt: HostRuntime) -> Result<(), Fail> {
+    let cases: [(&[u8], u32, P21Cause); 24] = [
         (b"\"4\"", 1, Why::BadToken),
         (b"\"0G\"", 1, Why::BadToken),
         (b"\"0\n\"", 1, Why::BadToken),

@@ -91,12 +91,17 @@ fn expect_file(alloc: Global, text: &str, wanted: &str) -> Result<(), Fail> {
     }
 }
 
-/// The model's 30 instances, in their order; some whole.
+/// The model's 30 instances, in their order.
 #[test]
 fn a_model_is_read(rt: HostRuntime) -> Result<(), Fail> {
     let wanted =
         "IFC4 1 2 3 4 5 6 7 8 9 10 11 12 13 14 15 20 21 22 23 24 25 26 27 28 29 30 31 32 33 34";
-    expect_file(rt.alloc(), MODEL, wanted)?;
+    expect_file(rt.alloc(), MODEL, wanted)
+}
+
+/// Some of the model's instances, whole.
+#[test]
+fn instances_of_a_model(rt: HostRuntime) -> Result<(), Fail> {
     let cases = [
         (
             4,
@@ -231,10 +236,22 @@ fn schema_ids(rt: HostRuntime) -> Result<(), Fail> {
     Ok(())
 }
 
-/// Each case begins in line 2, behind the header, and ends with the trailer.
+/// The file has this fault. The sections begin in line 2, behind the header; then comes the trailer.
+fn expect_sections_fault(
+    alloc: Global,
+    sections: &str,
+    line: u32,
+    why: P21Cause,
+) -> Result<(), Fail> {
+    let text = format!(in alloc; "{HEADER}\n{sections}{TRAILER}")?;
+    let found = read_file(alloc, text.as_str().as_bytes(), 2);
+    expect_fault(alloc, found.err(), line, why)
+}
+
+/// Which section stands there.
 #[test]
-fn faults_of_sections(rt: HostRuntime) -> Result<(), Fail> {
-    let cases: [(&str, u32, P21Cause); 28] = [
+fn faults_of_section_words(rt: HostRuntime) -> Result<(), Fail> {
+    let cases: [(&str, u32, P21Cause); 10] = [
         ("", 2, Why::BadToken),
         ("DATA;\nENDSEC;\nANCHOR;", 4, Why::OtherSection),
         ("ANCHOR;", 2, Why::OtherSection),
@@ -244,6 +261,18 @@ fn faults_of_sections(rt: HostRuntime) -> Result<(), Fail> {
         ("data;", 2, Why::BadToken),
         ("HEADER;", 2, Why::BadToken),
         ("DATA;\nANCHOR;", 3, Why::BadToken),
+        ("DATA;endsec;", 2, Why::BadToken),
+    ];
+    for (sections, line, why) in cases {
+        expect_sections_fault(rt.alloc(), sections, line, why)?;
+    }
+    Ok(())
+}
+
+/// What stands in a section.
+#[test]
+fn faults_of_sections(rt: HostRuntime) -> Result<(), Fail> {
+    let cases: [(&str, u32, P21Cause); 18] = [
         ("DATA;\n#1=A();\n#1=A();\n", 4, Why::IdTwice),
         ("DATA;\n#1=A();ENDSEC;DATA;\n#001=B();", 4, Why::IdTwice),
         ("DATA;#1=A();#2=A();\n#3=A();", 3, Why::TooManyInstances),
@@ -267,12 +296,9 @@ fn faults_of_sections(rt: HostRuntime) -> Result<(), Fail> {
         ("DATA;#1=A('\n", 2, Why::Unclosed),
         ("DATA;/*\n", 2, Why::Unclosed),
         ("DATA;#1=A(B(1,\n2));", 2, Why::BadToken),
-        ("DATA;endsec;", 2, Why::BadToken),
     ];
     for (sections, line, why) in cases {
-        let text = format!(in rt.alloc(); "{HEADER}\n{sections}{TRAILER}")?;
-        let found = read_file(rt.alloc(), text.as_str().as_bytes(), 2);
-        expect_fault(rt.alloc(), found.err(), line, why)?;
+        expect_sections_fault(rt.alloc(), sections, line, why)?;
     }
     Ok(())
 }

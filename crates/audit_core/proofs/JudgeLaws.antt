@@ -94,9 +94,6 @@ fault_is limits last base m (Add x) present count p c = rw (p, c)
 fault_is limits last base m (Set id attr value) present count p c = rw p
 fault_is limits last base m (Remove id) present count p c = rw p
 
-pub id_fault_none : (limits : Limits) (last : Key → ℕ) (base : ℕ) (m : List Instance) (e : Edit) → fault_of limits last base m e ≡ None → id_fault_of m e ≡ None
-id_fault_none limits last base m e f = (or_none (id_fault_of m e) _ (or_none (conflict_of last base e) _ f).1).0
-
 pub room_none : (limits : Limits) (last : Key → ℕ) (base : ℕ) (present : Bool) (count : ℕ) (e : Edit) → fault_given limits last base present count e ≡ None → room_fault_given limits count e ≡ None
 room_none limits last base present count e f = (or_none (attribute_fault_of e) (room_fault_given limits count e) (or_none (id_fault_given present e) _ (or_none (conflict_of last base e) _ f).1).1).1
 

@@ -1,5 +1,5 @@
 -- A call that adds no entry, and then another.
-use Rattle.std.proofs.Common.{◌≤◌, ℕ, ◌∙◌, Result, Ok, Err, IfErr, OnOk, arith}
+use Rattle.std.proofs.Common.{◌≤◌, ℕ, ◌∙◌, Result, Ok, Err, IfErr, OnOk, le_trans}
 use Rattle.audit_model.specs.declared.step.StepRec.{StepRec}
 use Rattle.model_view.specs.Views.{DraftView}
 use Rattle.model_view.specs.declared.answers.Halt.{Halt}
@@ -19,14 +19,11 @@ adds_after {a = a} {b = b} {c = c} {e = e} u s = record {
   ground = s.ground ∙ u.ground;
 }
 
-le_trans : (a b c : ℕ) → a ≤ b → b ≤ c → a ≤ c
-le_trans a b c l m = omega (arith, l, m)
-
 pub unchanged_after : {a b c : CoreView} → Unchanged a b → Unchanged b c → Unchanged a c
 unchanged_after {a = a} {b = b} {c = c} u s = record {
   history = s.history ∙ u.history;
   ground = s.ground ∙ u.ground;
-  spare = le_trans a.spare b.spare c.spare u.spare s.spare;
+  spare = le_trans u.spare s.spare;
   places = λ k h. s.places k (u.places k h);
 }
 
@@ -56,6 +53,6 @@ prepared_stays old new p r u = record {
   plan = rw (u.ground, u.history) r.plan;
   base_past = rw u.history r.base_past;
   not_full = rw (u.ground, u.history) r.not_full;
-  room = le_trans 1 old.spare new.spare r.room u.spare;
+  room = le_trans r.room u.spare;
   places = all_kept (has_place old.places) (has_place new.places) u.places p.keys r.places;
 }

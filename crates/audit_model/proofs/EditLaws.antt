@@ -63,12 +63,13 @@ not_taken x m e =
     let at : F (is_present x.id m) = elim (is_present x.id m) as F [ true ↦ λ k. absurd (cc) | false ↦ λ k. refl ] in
     at e
 
-model_edited : (m : List Instance) (e : Edit) → id_fault_of m e ≡ None → IsModel m → IsModel (edited m e)
+-- an edit whose id is no fault leaves the ids ascending
+pub model_edited : (m : List Instance) (e : Edit) → id_fault_of m e ≡ None → IsModel m → IsModel (edited m e)
 model_edited m (Add x) f h = model_with x m (not_taken x m f) h
 model_edited m (Set id attr value) f h = h
 model_edited m (Remove id) f h = model_filter _ m h
 
-id_fault_none : (limits : Limits) (last : Key → ℕ) (base : ℕ) (m : List Instance) (e : Edit) → fault_of limits last base m e ≡ None → id_fault_of m e ≡ None
+pub id_fault_none : (limits : Limits) (last : Key → ℕ) (base : ℕ) (m : List Instance) (e : Edit) → fault_of limits last base m e ≡ None → id_fault_of m e ≡ None
 id_fault_none limits last base m e f = (or_none (id_fault_of m e) _ (or_none (conflict_of last base e) _ f).1).0
 
 model_judged : (limits : Limits) (last : Key → ℕ) (base n : ℕ) (m : List Instance) (es : List Edit) → judge_from limits last base n m es ≡ None → IsModel m → IsModel (apply m es)

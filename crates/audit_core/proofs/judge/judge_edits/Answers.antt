@@ -4,11 +4,11 @@ use Rattle.audit_model.specs.declared.commit.EditFault.{EditFault}
 use Rattle.audit_model.specs.Models.{is_present}
 use Rattle.audit_model.specs.Edits.{edit_id, edited, apply}
 use Rattle.audit_model.specs.Judging.{judge_from, fault_of, fault_given, refused_or}
+use Rattle.audit_model.proofs.EditLaws.{id_fault_none, model_edited}
 use Rattle.audit_model.proofs.Inserting.{judge_next}
-use Rattle.model_view.proofs.Doing.{still_model}
 use Rattle.audit_core.specs.Changes.{last_in}
 use Rattle.audit_core.specs.Judged.{count_after}
-use Rattle.audit_core.proofs.JudgeLaws.{present_edited, length_edited, fault_is, id_fault_none, apply_more}
+use Rattle.audit_core.proofs.JudgeLaws.{present_edited, length_edited, fault_is, apply_more}
 use Rattle.audit_core.proofs.judge.judge_edits.Goals as goal
 
 pub loop-edit-preserved : goal.loop-edit-preserved
@@ -24,7 +24,7 @@ loop-edit-preserved c =
     ∙ ap (λ (o : Option EditFault). refused_or o (c.loop-edit.edit-index + 1) (judge_from c.args.limits (last_in c.args.log.now) c.args.base (c.loop-edit.edit-index + 1 + 1) (edited m c.edit-item.result) (drop (c.loop-edit.edit-index + 1) c.args.edits.now))) fault in
     record {
       number_is = omega (arith, c.saturating_add-number.ensures, c.loop-edit.invariant.number_is);
-      model = rw more (still_model m c.edit-item.result possible c.loop-edit.invariant.model);
+      model = rw more (model_edited m c.edit-item.result possible c.loop-edit.invariant.model);
       present = λ i. rw (more, present_edited i m c.edit-item.result, ← c.loop-edit.invariant.present i) (c.in_ok-note_edit.ensures c.args.now.now.model i);
       count_is = rw more (c.count_after-count.ensures ∙ ap (λ (n : ℕ). count_after c.edit-item.result n) c.loop-edit.invariant.count_is ∙ length_edited m c.edit-item.result possible c.loop-edit.invariant.model);
       judged = rw more (sym step ∙ c.loop-edit.invariant.judged);

@@ -14,7 +14,7 @@ use Rattle.audit_model.specs.Pairs.{same_pair}
 use Rattle.audit_model.specs.History.{Ground, claim_numbered, without_claim, out, out_after, given, revision}
 use Rattle.audit_model.specs.Machine.{Legal, Answers, claimed, least_claimable}
 use Rattle.audit_model.proofs.Tests.{Each, Each-filter, Each-weaker, filter-shorter}
-use Rattle.audit_model.proofs.Numbers.{out_numbers}
+use Rattle.audit_model.proofs.Numbers.{out_numbers, claim_number}
 use Rattle.audit_core.specs.declared.board.Row.{Row}
 use Rattle.audit_core.specs.declared.board.Kept.{Kept}
 use Rattle.audit_core.specs.Rows.{is_claimable, row_place, settled_rows, back_to}
@@ -44,10 +44,6 @@ each_push P (d ∷ ds) c h k = (h.0, each_push P ds c h.1 k)
 rising_push : (n : ℕ) (cs : List Given) (c : Given) → Each (λ (d : Given). d.number ≤ n) cs → n < c.number → Rising cs → Rising (cs ++ c ∷ [])
 rising_push n [] c a l r = (tt, tt)
 rising_push n (d ∷ ds) c a l r = (each_push (λ (x : Given). d.number < x.number) ds c r.0 (omega (arith, a.0, l)), rising_push n ds c a.1 l r.1)
-
-claim_number : (o : Option Pair) (n m r r' : ℕ) (p : Pair) → Claimed m p r ≡ claimed o n r' → m ≡ n
-claim_number None n m r r' p e = cc
-claim_number (Some q) n m r r' p e = cc
 
 rising_after : (g : Ground) (h : List StepRec) (actor : ℕ) (call : Call) (reply : Reply) → Answers g h actor call reply → Each (λ (c : Given). c.number ≤ given h) (out h) → Rising (out h) → Rising (out_after actor call reply (out h))
 rising_after g h actor Begin reply a n r = r

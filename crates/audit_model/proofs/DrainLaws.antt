@@ -285,7 +285,7 @@ legal_joined : (g : Ground) (h es : List StepRec) → Legal g h → AllMayFollow
 legal_joined g h [] l f = l
 legal_joined g h (e ∷ es) l f = subst (λ (xs : List StepRec). Legal g xs) (sym (turned e es h)) (legal_joined g (e ∷ h) es (f.0, l) f.1)
 
-legal_older : (g : Ground) (xs h : List StepRec) → Legal g (xs ++ h) → Legal g h
+pub legal_older : (g : Ground) (xs h : List StepRec) → Legal g (xs ++ h) → Legal g h
 legal_older g [] h l = l
 legal_older g (x ∷ xs) h l = legal_older g xs h l.1
 

@@ -28,7 +28,7 @@ use Rattle.audit_model.proofs.PairLaws.{settled_pair}
 
 -- One reply.
 
-same_some : (o : Option Given) (c d : Given) → o ≡ Some c → o ≡ Some d → c ≡ d
+pub same_some : (o : Option Given) (c d : Given) → o ≡ Some c → o ≡ Some d → c ≡ d
 same_some o c d e f = let k : Some c ≡ Some d = sym e ∙ f in cc
 
 pub one_reply : OneReply

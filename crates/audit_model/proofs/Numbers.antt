@@ -19,7 +19,7 @@ AllTo n cs = Each (λ (c : Given). c.number ≤ n) cs
 more_to : (n k : ℕ) (cs : List Given) → AllTo n cs → AllTo (k + n) cs
 more_to n k cs h = Each-weaker _ _ (λ (c : Given) l. omega (arith, l)) cs h
 
-claim_number : (o : Option Pair) (n m r r' : ℕ) (p : Pair) → Claimed m p r ≡ claimed o n r' → m ≡ n
+pub claim_number : (o : Option Pair) (n m r r' : ℕ) (p : Pair) → Claimed m p r ≡ claimed o n r' → m ≡ n
 claim_number None n m r r' p e = cc
 claim_number (Some q) n m r r' p e = cc
 

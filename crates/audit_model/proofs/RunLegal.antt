@@ -38,7 +38,7 @@ grows_by : (o : Option (List Edit)) (cs : List (List Edit)) → length cs ≤ le
 grows_by None cs = omega arith
 grows_by (Some edits) cs = omega arith
 
-revision_grows : (e : StepRec) (h : List StepRec) → revision h ≤ revision (e ∷ h)
+pub revision_grows : (e : StepRec) (h : List StepRec) → revision h ≤ revision (e ∷ h)
 revision_grows e h = grows_by (accepted e) (commits h)
 
 -- What a line leads to from h is legal, and its draft is of a revision so far.

@@ -1,6 +1,6 @@
 -- What actors hold stays theirs while others make entries.
-use Rattle.std.proofs.Common.{◌≡◌, ℕ, suc, zero, ◌+◌, ◌<◌, ◌≤◌, Bool, true, false, not, cond, ◌||◌, ◌==◌, List, [], ◌∷◌, ◌++◌, length, get_or, Option, Some, None, refl, arith, ap, sym, subst, ◌∙◌}
-use Rattle.std.specs.List.{cons_option, remove, position, position_or_len, before_first, after_first}
+use Rattle.std.proofs.Common.{◌≡◌, ℕ, suc, zero, ◌+◌, ◌<◌, ◌≤◌, Bool, true, false, not, cond, ◌||◌, ◌==◌, List, [], ◌∷◌, ◌++◌, get_or, Option, Some, None, refl, arith, ap, sym, subst, ◌∙◌}
+use Rattle.std.specs.List.{remove, position, position_or_len, before_first, after_first}
 use Rattle.std.proofs.lemmas.Bool.{and_parts, eqb-true, ne_eqb, true≢false}
 use Rattle.std.proofs.lemmas.List.Quantifiers.{position-Some}
 use Rattle.ifc_base.specs.declared.key.Key.{Key}
@@ -12,12 +12,13 @@ use Rattle.audit_model.specs.declared.step.Call.{Call}
 use Rattle.audit_model.specs.declared.step.Call.TheVariants.{Begin, Commit, Claim, Deliver, GiveBack, Publish}
 use Rattle.audit_model.specs.declared.step.Reply.{Reply}
 use Rattle.audit_model.specs.declared.step.Reply.TheVariants.{Claimed, Back}
-use Rattle.audit_model.specs.History.{Ground, judge_in, last_change, accepted, commits, current, revision, out, given, claim_numbered, without_claim}
+use Rattle.audit_model.specs.History.{Ground, judge_in, last_change, commits, current, revision, out, given, claim_numbered, without_claim}
 use Rattle.audit_model.specs.Machine.{Answers, Legal, MayFollow, claimed, committed, delivered, published, least_claimable, least_changed, least_unsettled}
 use Rattle.audit_model.proofs.Claims.{IsSound, sound_out}
 use Rattle.audit_model.proofs.Commits.{model_of-last}
 use Rattle.audit_model.proofs.HistoryLaws.{earlier_models_stay}
-use Rattle.audit_model.proofs.Numbers.{out_numbers}
+use Rattle.audit_model.proofs.Numbers.{out_numbers, claim_number}
+use Rattle.audit_model.proofs.RunLegal.{revision_grows}
 use Rattle.audit_model.proofs.Tests.{Each, Each-found, or_true, Each-all}
 use Rattle.model_view.specs.Views.{ClaimView}
 use Rattle.audit_core.specs.Cores.{now_in}
@@ -73,10 +74,6 @@ taken_push g h n (x ∷ xs) t a l k own = (k.0, (later_push x.claim.number xs t 
 all_known : (g : Ground) (h : List StepRec) (ts : List Taken) → Legal g h → AreTaken g h ts → Each (λ (x : Taken). x.claim.number ≤ given h) ts
 all_known g h [] l k = tt
 all_known g h (t ∷ ts) l k = (known g h t l k.0, all_known g h ts l k.1.1)
-
-claim_number : (o : Option Pair) (n m r r' : ℕ) (p : Pair) → Claimed m p r ≡ claimed o n r' → m ≡ n
-claim_number None n m r r' p e = cc
-claim_number (Some q) n m r r' p e = cc
 
 -- a claim that was just given, of the model now, is taken beside the others
 pub taken_more : (g : Ground) (h : List StepRec) (ts : List Taken) (actor : ℕ) (c : ClaimView) → Legal g h → MayFollow g h (record { actor = actor; call = Claim; reply = Claimed c.number c.pair c.snapshot.revision }) → c.snapshot ≡ now_in g h →
@@ -184,9 +181,6 @@ begun_first h actor (x ∷ xs) b p e =
 
 pub begun_others : (h : List StepRec) (actor : ℕ) (bs : List Begun) → AreBegun h bs → AreBegun h (other_drafts actor bs)
 begun_others h actor bs p = subst (AreBegun h) (first_removed (drafted_by actor) bs) (begun_remove h bs (position_or_len (drafted_by actor) bs) p)
-
-revision_grows : (e : StepRec) (h : List StepRec) → revision h ≤ revision (e ∷ h)
-revision_grows e h = elim (accepted e) as (λ o. length (commits h) ≤ length (cons_option o (commits h))) [ None ↦ omega arith | Some edits ↦ omega arith ]
 
 -- No other reply is Began.
 

@@ -13,6 +13,7 @@ use Rattle.audit_model.specs.ScriptLines.{Place, place, entry}
 use Rattle.audit_model.specs.Serial.{Done, done, ended, with_room, after_claim, rounds, commit_done}
 use Rattle.audit_model.proofs.Claims.{IsSound, sound_out}
 use Rattle.audit_model.proofs.HistoryLaws.{earlier_models_stay}
+use Rattle.audit_model.proofs.RunLegal.{revision_grows}
 use Rattle.audit_model.proofs.Tests.{Each-found}
 use Rattle.model_view.specs.Views.{DraftView, FindingView}
 use Rattle.model_view.specs.declared.answers.Halt.{Halt}
@@ -161,9 +162,6 @@ rounds_place g who (suc n) p h =
     let d : Done = after_claim g who (claim_reply g h) h p (rounds g who n p) in
     let e : d.place ≡ p = after_place g who (claim_reply g h) h p (rounds g who n p) (λ k. rounds_place g who n p k) in
     elim (is_full g h 2) as (λ b. (cond b (ended h p) d).place ≡ p) [ true ↦ refl | false ↦ e ]
-
-revision_grows : (e : StepRec) (h : List StepRec) → revision h ≤ revision (e ∷ h)
-revision_grows e h = elim (accepted e) as (λ o. length (commits h) ≤ length (cons_option o (commits h))) [ None ↦ omega arith | Some edits ↦ omega arith ]
 
 revision_later : (es h : List StepRec) → revision h ≤ revision (es ++ h)
 revision_later [] h = omega arith

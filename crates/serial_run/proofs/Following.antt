@@ -21,7 +21,7 @@ use Rattle.audit_model.specs.Drain.{caller_entry, drain_from, drain_after, unset
 use Rattle.audit_model.specs.ScriptLines.{Place, place, free, number_in, entry, commit_of, deliver_of, Turns, Rounds, Does, FollowsFrom, own}
 use Rattle.audit_model.specs.ScriptOrder.{IsOrderly, AreOrderly, may_come, drafts_after, holds_after}
 use Rattle.audit_model.specs.Serial.{Done, done, ended, with_room, given_to, with_delivery, after_delivery, after_claim, rounds, commit_done, give_done, act_done, drain_done, Run, fresh, moved, line_run, lines_run, sync_run, phases_run, serial}
-use Rattle.audit_model.proofs.DrainLaws.{drain_follows, turned}
+use Rattle.audit_model.proofs.DrainLaws.{drain_follows, legal_older, turned}
 use Rattle.audit_model.proofs.RunLaws.{drain_ends}
 use Rattle.audit_model.proofs.RunLegal.{serial_is_legal}
 use Rattle.serial_run.specs.Growth.{IsLater}
@@ -38,10 +38,6 @@ turned_both es fs h = ap (λ (xs : List StepRec). xs ++ h) (reverse-append es fs
 by_both : (who : ℕ) (es fs : List StepRec) → AllBy who es → AllBy who fs → AllBy who (es ++ fs)
 by_both who [] fs a b = b
 by_both who (e ∷ es) fs a b = (a.0, by_both who es fs a.1 b)
-
-pub legal_older : (g : Ground) (xs h : List StepRec) → Legal g (xs ++ h) → Legal g h
-legal_older g [] h l = l
-legal_older g (x ∷ xs) h l = legal_older g xs h l.1
 
 pub legal_before : (g : Ground) (h k : List StepRec) → IsLater h k → Legal g k → Legal g h
 legal_before g h k later l = legal_older g later.0 h (subst (λ (xs : List StepRec). Legal g xs) later.1 l)

@@ -20,12 +20,12 @@ use Rattle.audit_model.specs.Drain.{drain_after}
 use Rattle.audit_model.specs.ScriptLines.{Place, place, free, number_in, entry, commit_of, deliver_of, Turns, Rounds, Does, FollowsFrom, own}
 use Rattle.audit_model.specs.ScriptOrder.{IsOrderly, AreOrderly, may_come}
 use Rattle.audit_model.specs.Serial.{Done, done, ended, with_room, after_delivery, after_claim, rounds, commit_done, give_done, act_done, Run, fresh, moved, line_run, lines_run, sync_run, phases_run}
-use Rattle.audit_model.proofs.DrainLaws.{drain_follows, turned}
+use Rattle.audit_model.proofs.DrainLaws.{drain_follows, legal_older, turned}
 use Rattle.audit_model.proofs.RunLegal.{serial_is_legal}
 use Rattle.serial_run.specs.Phased.{IsPhaseOf, ArePhases, OnlySerial}
 use Rattle.serial_run.proofs.Growing.{phases_grow}
 use Rattle.serial_run.proofs.Turning.{none_left}
-use Rattle.serial_run.proofs.Following.{turned_both, legal_before, legal_older, HeldIn, none_yet, found_alone, deliver_entry, delivery_is, IsWorked, rounds_on, Goes, act_goes, drafts, holds, own_first, line_is, lines_going, order_on, AreFollowed, lines_follow, sync_going, sync_is, phases_going, IsPhased, phase_on}
+use Rattle.serial_run.proofs.Following.{turned_both, legal_before, HeldIn, none_yet, found_alone, deliver_entry, delivery_is, IsWorked, rounds_on, Goes, act_goes, drafts, holds, own_first, line_is, lines_going, order_on, AreFollowed, lines_follow, sync_going, sync_is, phases_going, IsPhased, phase_on}
 
 -- One entry.
 

@@ -12,6 +12,7 @@ use Rattle.audit_model.specs.Machine.{Legal, claim_reply, is_full}
 use Rattle.audit_model.specs.ScriptLines.{Place, entry}
 use Rattle.audit_model.specs.Serial.{Done, done, ended, given_to, with_delivery, after_delivery, after_claim, rounds}
 use Rattle.audit_model.proofs.Commits.{model_of-last}
+use Rattle.audit_model.proofs.HistoryLaws.{same_some}
 use Rattle.model_view.specs.Views.{ClaimView, FindingView}
 use Rattle.model_view.specs.declared.answers.Delivered.{Delivered}
 use Rattle.audit_core.specs.Cores.{CoreView}
@@ -97,9 +98,6 @@ ready_true k = record {
   verdict_is = k.ready.1.verdict_is;
   needs_are = k.ready.1.needs_are;
 }
-
-same_some : (o : Option Given) (c d : Given) → o ≡ Some c → o ≡ Some d → c ≡ d
-same_some o c d e f = let k : Some c ≡ Some d = sym e ∙ f in cc
 
 pub given_to_self : (who : ℕ) (c : Given) → c.actor ≡ who → given_to who (Some c) ≡ Some c
 given_to_self who c e = ap (λ (b : Bool). cond b (Some c) None) (eq-eqb c.actor who e)

@@ -62,8 +62,8 @@ at_script held command old first second third new e x y z f f' f'' h =
 
 -- reading an input whole is some of its reading
 part_of : (name : List ℕ) (most : ℕ) (old new : List Read) (i : Option (List ℕ)) → IsRead name most old new i → IsPart name most old new
-part_of name most old new (Some bytes) r = inr (bytes, r)
-part_of name most old new None r = inr (r.0, r.1)
+part_of name most old new (Some bytes) r = inr (bytes, r.1)
+part_of name most old new None r = inr (r.0, r.2)
 
 ok_or_err : {V : Type 0} (r : Result V Refused) → IsOk r ⊎ IsErr r
 ok_or_err (Ok x) = inl refl

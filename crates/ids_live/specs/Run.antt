@@ -73,7 +73,7 @@ pub record IsRun (held : Option Files) (before after : List Read) (command : Com
   pub inputs_in_steps : At (5 ∷ []) ended.status (IfSteps ended.journal ⊤ (AreInputs held before after command i))
   -- at 3 a read of an input failed, which was the last read
   pub cut : At (3 ∷ []) ended.status (CameTo IsCut command before after)
-  -- at 5 no more was read than some of the inputs in their turn
+  -- at 5 inputs were read in their turn up to one, of which no read, some or all were made
   pub part : At (5 ∷ []) ended.status (CameTo IsPart command before after)
   pub ends : IsEndOf (loaded_of i) old new ended
 

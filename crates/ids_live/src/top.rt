@@ -16,10 +16,10 @@ use shelf_io::{Shelf, Sink};
 use std::alloc::Global;
 
 /// Runs a command: `replay` and the names of a schema, specifications, a model and a script. The words
-/// don't hold the program's name. It reads each input whole, one behind the other and up to the first
-/// that is refused, and nothing twice, and runs the script on the model: it writes phase by phase what
-/// the editor is told and the report, or the line of the refused input. It waits for nobody and always
-/// returns.
+/// don't hold the program's name. It reads the inputs in their turn, each once: whole, or one byte past
+/// its limit, up to the first that is refused or fails; and nothing else. It runs the script on the
+/// model, and writes phase by phase what the editor is told and the report, or the line of the refused
+/// input. It waits for nobody and always returns.
 ///
 /// Cost: `O(b)` for b bytes of input, `O(n log n)` where the file's ids don't ascend, and for s
 /// specifications and n instances `O(s n log (s n))` for each commit, `O(n)` more for each of its edits,

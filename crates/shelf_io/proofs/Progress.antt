@@ -1,5 +1,5 @@
 -- What has been read or written so far.
-use Rattle.std.proofs.Common.{◌≡◌, ℕ, ◌+◌, ◌-◌, ◌≤◌, ◌<◌, nat_lt, true, false, List, [], ◌∷◌, ◌++◌, length, take, drop, Option, refl, ap, sym, ◌∙◌, arith, length-append, append_assoc}
+use Rattle.std.proofs.Common.{◌≡◌, ℕ, ◌+◌, ◌-◌, ◌≤◌, ◌<◌, nat_lt, true, false, List, ◌∷◌, ◌++◌, length, take, drop, Option, refl, ap, sym, ◌∙◌, arith, length-append, append_assoc}
 use Rattle.std.specs.Prelude.{Some, None, IfSome}
 use Rattle.std.specs.Option.{ForSome}
 use Rattle.std.proofs.Math.Seq.{take-add}
@@ -48,28 +48,29 @@ read_step all bytes next into rest from n front piece here room made =
     rw (whole, take-add, front, ← got) (sym made)
 
 -- one more read that gave some bytes
-pub given_more : {name : List ℕ} {most : ℕ} {old now new : List Read} (bytes next into rest : List ℕ) (from n : ℕ) → HasGiven name most old now bytes → from ≡ length bytes → length bytes < most → 0 < n → n ≤ length into
-    → new ≡ (name, from, Some (take n into)) ∷ now → next ≡ bytes ++ take n (into ++ rest) → HasGiven name most old new next
-given_more {name} bytes next into rest from n (reads, given, went) here more some room noted made =
+pub given_more : {name : List ℕ} {most : ℕ} {old now new : List Read} (bytes next into rest : List ℕ) (from n room : ℕ) → HasGiven name most old now bytes → from ≡ length bytes → from + n ≤ most → 0 < n → n ≤ length into
+    → new ≡ (name, from, room, Some (take n into)) ∷ now → next ≡ bytes ++ take n (into ++ rest) → HasGiven name most old new next
+given_more {name} {most} bytes next into rest from n room (reads, given, went) here more some fits noted made =
     let whole : length (take n into) ≡ n = grind (arith, common_steps) in
-    let piece : take n (into ++ rest) ≡ take n into = take-append-le n into rest room in (
-      (name, length bytes, Some (take n into)) ∷ reads,
-      (bytes, take n into, given, more, rw whole some, refl, rw (made, piece) refl),
+    let piece : take n (into ++ rest) ≡ take n into = take-append-le n into rest fits in
+    let within : length bytes + length (take n into) ≤ most = omega (arith, more, whole, here) in (
+      (name, length bytes, room, Some (take n into)) ∷ reads,
+      (bytes, take n into, room, given, rw whole some, within, refl, rw (made, piece) refl),
       rw (noted, here, went) refl,
     )
 
 -- a read that gave nothing ends it
-pub given_whole : {name : List ℕ} {most : ℕ} {old now new : List Read} (bytes into : List ℕ) (from n : ℕ) → HasGiven name most old now bytes → from ≡ length bytes → length bytes < most → n ≡ 0
-    → new ≡ (name, from, Some (take n into)) ∷ now → IsWhole name most old new bytes
-given_whole {name} {most} {old} {now} bytes into from n given here more none noted =
+pub given_whole : {name : List ℕ} {most : ℕ} {old now new : List Read} (bytes into : List ℕ) (from n room : ℕ) → 0 < room → HasGiven name most old now bytes → from ≡ length bytes → length bytes < most → n ≡ 0
+    → new ≡ (name, from, room, Some (take n into)) ∷ now → IsWhole name most old new bytes
+given_whole {name} {most} {old} {now} bytes into from n room some given here more none noted =
     let fewer : nat_lt (length bytes) most ≡ true = grind (arith, common_steps) in
-    (now, given, rw (fewer, noted, here, none) refl)
+    (now, room, given, some, rw (fewer, noted, here, none) refl)
 
 -- and so does having as many as are wanted
 pub given_most : {name : List ℕ} {most : ℕ} {old now : List Read} (bytes : List ℕ) → HasGiven name most old now bytes → most ≤ length bytes → IsWhole name most old now bytes
 given_most {name} {most} {old} {now} bytes given full =
     let enough : nat_lt (length bytes) most ≡ false = grind (arith, common_steps) in
-    (now, given, rw enough refl)
+    (now, 1, given, omega arith, rw enough refl)
 
 -- a front that is as long as the whole is the whole
 pub front_whole : (all bytes : List ℕ) (most : ℕ) → IsFront bytes all → length all ≤ length bytes → length bytes ≤ most → bytes ≡ take most all

@@ -5,4 +5,4 @@ use Rattle.shelf_io.specs.declared.read_note.ReadNote.{ReadNote}
 use Rattle.shelf_io.specs.Reads.{Read}
 
 abbrev pub read_of : ReadNote → Read
-read_of note = (chars note.name.now, note.from, option_map (λ bytes. bytes.now) note.bytes)
+read_of note = (chars note.name.now, note.from, note.room, option_map (λ bytes. bytes.now) note.bytes)

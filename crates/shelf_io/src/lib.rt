@@ -3,8 +3,8 @@
 //!
 //! A shelf or a sink answers `Failed` only where its count of faults rose, and a call that goes well
 //! leaves the count: so a caller can tell a fault of the outside from every other answer. What a shelf
-//! holds and what a sink was given stand in contracts where the object tells it; those of the system
-//! tell nothing.
+//! holds and what a sink was given stand in contracts where the object tells it; of what files hold and
+//! what was written, those of the system tell nothing.
 #![tactic(auto)]
 
 mod gate;

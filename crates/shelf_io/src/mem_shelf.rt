@@ -132,7 +132,8 @@ impl Shelf for MemShelf {
 
     fn read_at(&mut self, name: &str, from: u64, into: &mut [u8]) -> Result<usize, Failed>
         ensures held { Some (entries self.new) ≡ Some (entries self.old) }
-        ensures reads { shelf_reads self.new ≡ (chars name.now, from, answered result into.new) ∷ shelf_reads self.old }
+        ensures logged { shelf_reads self.new
+            ≡ (chars name.now, from, length into.old, answered result into.new) ∷ shelf_reads self.old }
         ensures bound { IfOk result (λ n. n ≤ length into.new) }
         ensures bytes { IfOk result (λ n. IfSome (file_told (Some (entries self.old)) (chars name.now))
             (λ bytes. IsPiece bytes from n into.new)) }

@@ -8,7 +8,11 @@ use crate::traits::Failed;
 use std::marker::Model;
 
 /// The reads of a shelf so far with what each answered, the newest first. Contracts see them as `reads`;
-/// the program keeps nothing of them: the log takes no memory, and its calls do nothing.
+/// the program keeps nothing of them: the log takes no memory, and its calls change nothing.
+///
+/// The log tells the calls of `read_at`: it binds whoever reads through `Shelf` alone. What a shelf does
+/// in a call, as how often and at which place it asks the system, no log says, and a proof at a shelf's
+/// own type may set its log as it likes.
 #[derive(Drop)]
 pub struct ReadLog {
     pub ghost reads: { List Read },
@@ -41,13 +45,19 @@ impl ReadLog {
         buffer: &[u8],
     ) -> ReadLog
         requires { IfOk answer (λ n. n ≤ length buffer.now) }
-        ensures { result.reads ≡ (chars name.now, from, answered answer buffer.now) ∷ self.now.reads }
+        ensures { result.reads
+            ≡ (chars name.now, from, length buffer.now, answered answer buffer.now) ∷ self.now.reads }
     {
         let bytes = match answer {
             Ok(count) => Some(&buffer[..count]),
             Err(_) => None,
         };
-        self.with(&ReadNote { name, from, bytes })
+        self.with(&ReadNote {
+            name,
+            from,
+            room: buffer.len(),
+            bytes,
+        })
     }
 
     /// The log with this read before the others.

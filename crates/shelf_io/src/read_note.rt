@@ -5,6 +5,8 @@ pub(crate) struct ReadNote<'a> {
     pub(crate) name: &'a str,
     /// The place from which the file was to be read.
     pub(crate) from: u64,
+    /// How many bytes there was room for.
+    pub(crate) room: usize,
     /// The bytes that were answered, or None where the read failed.
     pub(crate) bytes: Option<&'a [u8]>,
 }

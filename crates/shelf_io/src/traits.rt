@@ -11,7 +11,8 @@ pub struct Failed;
 /// Files by name, of which the bytes can be read in pieces.
 ///
 /// A shelf says what it holds, or `None` where it doesn't tell; what it was asked for and what it
-/// answered, which a `ReadLog` keeps for it; how many faults it has had, at most 2^64 - 1; and at which
+/// answered, which a `ReadLog` keeps for it and which says nothing of what the shelf itself does in a
+/// call; how many faults it has had, at most 2^64 - 1; and at which
 /// names it is steady, which a shelf that promises nothing leaves at its default.
 pub trait Shelf {
     /// What the shelf holds, where it tells.
@@ -32,7 +33,8 @@ pub trait Shelf {
     /// buffer behind the bytes that were read, or after `Failed`, isn't said.
     fn read_at(&mut self, name: &str, from: u64, into: &mut [u8]) -> Result<usize, Failed>
         ensures held { held self.new ≡ held self.old }
-        ensures reads { reads self.new ≡ (chars name.now, from, answered result into.new) ∷ reads self.old }
+        ensures logged { reads self.new
+            ≡ (chars name.now, from, length into.old, answered result into.new) ∷ reads self.old }
         ensures bound { IfOk result (λ n. n ≤ length into.new) }
         ensures bytes { IfOk result (λ n. IfSome (file_told (held self.old) (chars name.now))
             (λ bytes. IsPiece bytes from n into.new)) }

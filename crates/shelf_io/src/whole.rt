@@ -16,9 +16,9 @@ const CHUNK: usize = 65536;
 /// for one byte more than the limit, and a longer answer than the limit is a file that is too long.
 ///
 /// It reads from the front on, each time from where it has come to, until a read answers 0 bytes or
-/// `most` bytes are there, and nothing twice. `Fault(Failed)` comes only where a read failed; no further
-/// one is tried then. After a refusal what was read is dropped. `O(n)` in the bytes read, beside one buffer of 64 KB; the shelf is asked again
-/// after a short read, until it answers 0 bytes.
+/// `most` bytes are there, and nothing twice. `Fault(Failed)` comes only where a read failed; no
+/// further one is tried then. After a refusal what was read is dropped. `O(n)` in the bytes read,
+/// beside one buffer of 64 KB; the shelf is asked again after a short read, until it answers 0 bytes.
 pub fn read_all<S: Shelf>(
     alloc: Global,
     shelf: &mut S,
@@ -26,7 +26,7 @@ pub fn read_all<S: Shelf>(
     most: usize,
 ) -> Result<Bytes, Refusal<Failed>>
     ensures held { S.held shelf.new ≡ S.held shelf.old }
-    ensures reads { IsReading (chars name.now) most (S.reads shelf.old) (S.reads shelf.new) result }
+    ensures logged { IsReading (chars name.now) most (S.reads shelf.old) (S.reads shelf.new) result }
     ensures bound { IfOk result (λ bytes. length bytes ≤ most) }
     ensures bytes { IfOk result (λ bytes. IfSome (file_told (S.held shelf.old) (chars name.now))
         (λ all. bytes ≡ take most all)) }
@@ -55,7 +55,7 @@ fn read_by<S: Shelf>(
 ) -> Result<Bytes, Refusal<Failed>>
     requires { 0 < length chunk.old }
     ensures held { S.held shelf.new ≡ S.held shelf.old }
-    ensures reads { IsReading (chars name.now) most (S.reads shelf.old) (S.reads shelf.new) result }
+    ensures logged { IsReading (chars name.now) most (S.reads shelf.old) (S.reads shelf.new) result }
     ensures bound { IfOk result (λ bytes. length bytes ≤ most) }
     ensures bytes { IfOk result (λ bytes. IfSome (file_told (S.held shelf.old) (chars name.now))
         (λ all. bytes ≡ take most all)) }

@@ -9,8 +9,8 @@ pub loop-bytes-preserved : goal.loop-bytes-preserved
 loop-bytes-preserved g c = record {
   same = search rules;
   bound = search rules;
-  given = given_more c.loop-bytes.bytes.items c.extend_from_slice.new.self.items c.read_at.new.into _ c.len-in-loop-bytes-2.result c.in-Ok.count
-      c.loop-bytes.invariant.given (search rules) (search rules) (search rules) c.in-Ok.ensures.bound c.in-Ok.ensures.reads c.in_ok-extend_from_slice.ensures.items;
+  given = given_more c.loop-bytes.bytes.items c.extend_from_slice.new.self.items c.read_at.new.into _ c.len-in-loop-bytes-2.result c.in-Ok.count _
+      c.loop-bytes.invariant.given (search rules) (search rules) (search rules) c.in-Ok.ensures.bound c.in-Ok.ensures.logged c.in_ok-extend_from_slice.ensures.items;
   front = λ all e.
       let piece = piece_at (g.S.Shelf.held c.args.shelf.now) (g.S.Shelf.held c.loop-bytes.shelf) (chars c.args.name.now) all
       c.len-in-loop-bytes-2.result c.in-Ok.count c.read_at.new.into c.loop-bytes.invariant.same e c.in-Ok.ensures.bytes in
@@ -32,18 +32,18 @@ returns-clause-bytes g c = elim c.loop-bytes-test.branch [
       (let ended = piece.ended (search rules) w.if-count-eq0.true in search rules) c.loop-bytes.invariant.bound)
 ]
 
-pub returns-clause-reads : goal.returns-clause-reads
-returns-clause-reads g c = elim c.loop-bytes-test.branch [
+pub returns-clause-logged : goal.returns-clause-logged
+returns-clause-logged g c = elim c.loop-bytes-test.branch [
   | else-loop-bytes-test w ↦ rw (c.from_vec.ensures, w.shelf-is) (given_most c.loop-bytes.bytes.items c.loop-bytes.invariant.given (search rules))
-  | then-loop-bytes-test+in-Ok+then-count-eq0 w ↦ rw (c.from_vec.ensures, w.shelf-is) (given_whole c.loop-bytes.bytes.items w.read_at.new.into _ w.in-Ok.count
-      c.loop-bytes.invariant.given (search rules) (search rules) w.if-count-eq0.true w.in-Ok.ensures.reads)
+  | then-loop-bytes-test+in-Ok+then-count-eq0 w ↦ rw (c.from_vec.ensures, w.shelf-is) (given_whole c.loop-bytes.bytes.items w.read_at.new.into _ w.in-Ok.count _ (search rules)
+      c.loop-bytes.invariant.given (search rules) (search rules) w.if-count-eq0.true w.in-Ok.ensures.logged)
 ]
 
-pub returns-in_err-extend_from_slice-clause-reads : goal.returns-in_err-extend_from_slice-clause-reads
-returns-in_err-extend_from_slice-clause-reads g c =
+pub returns-in_err-extend_from_slice-clause-logged : goal.returns-in_err-extend_from_slice-clause-logged
+returns-in_err-extend_from_slice-clause-logged g c =
     let p = err_from_is_err_and c.from_residual.result c.from_residual.ensures.1 in
     rw (p.1, p.2) (
       c.loop-bytes.bytes.items ++ take c.in-Ok.count (c.read_at.new.into ++ []),
-      given_more c.loop-bytes.bytes.items _ c.read_at.new.into [] c.len-in-loop-bytes-2.result c.in-Ok.count
-          c.loop-bytes.invariant.given (search rules) (search rules) (search rules) c.in-Ok.ensures.bound c.in-Ok.ensures.reads refl,
+      given_more c.loop-bytes.bytes.items _ c.read_at.new.into [] c.len-in-loop-bytes-2.result c.in-Ok.count _
+          c.loop-bytes.invariant.given (search rules) (search rules) (search rules) c.in-Ok.ensures.bound c.in-Ok.ensures.logged refl,
     )

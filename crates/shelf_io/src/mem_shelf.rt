@@ -120,7 +120,8 @@ impl Shelf for MemShelf {
     ghost use Rattle.shelf_io.specs.Causes.{HasCause, next_count};
     ghost use Rattle.shelf_io.specs.Pieces.{file_told, IsMissing};
     ghost use Rattle.shelf_io.specs.Reads.{answered};
-    ghost use Rattle.shelf_io.specs.Held.{shelf_files, entries, shelf_faults, shelf_reads, reads_well, read_first, readable, IsSteady};
+    ghost use Rattle.shelf_io.specs.Held.{shelf_files, entries, shelf_faults, shelf_reads};
+    ghost use Rattle.shelf_io.specs.Held.{reads_well, read_first, readable, IsSteady};
 
     ghost held = { λ s. Some (entries s) };
 

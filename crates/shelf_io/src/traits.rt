@@ -1,4 +1,5 @@
-ghost use Rattle.std.specs.Prelude.{◌≡◌, ◌≤◌, ◌+◌, ℕ, List, ◌∷◌, Option, length, take, IfOk, IfSome, IsErr, IsOk, OnOk, MatchResult};
+ghost use Rattle.std.specs.Prelude.{◌≡◌, ◌≤◌, ◌+◌, ℕ, List, ◌∷◌, Option, length, take};
+ghost use Rattle.std.specs.Prelude.{IfOk, IfSome, IsErr, IsOk, OnOk, MatchResult};
 ghost use Rattle.std.specs.Str.{chars};
 ghost use Rattle.shelf_io.specs.Causes.{HasCause};
 ghost use Rattle.shelf_io.specs.Pieces.{Files, file_told, IsMissing, IsPiece, IsTaken, Appended};

@@ -247,40 +247,30 @@ record IsPlayed (l : Loaded) (old new : Option (List ℕ)) (e : Ended) : Type 0 
   pub text : Appended old new (output l e.journal)
   pub verdict : e.status ≡ (if ends_pass (output l e.journal) then 0 else 1)
 
-played_0 : (l : Loaded) (old new : Option (List ℕ)) (e : Ended) → IsPlayed l old new e → e.status ≡ 0 → IsEndOf (Ok l) old new e
-played_0 l old new e k status = record {
-  all_read = rw status refl;
-  room = rw status k.room;
-  history = rw status k.history;
-  phases = rw status k.phases;
-  stopped = rw status tt;
-  none_out = rw status tt;
-  legal = rw status k.legal;
-  text = rw status k.text;
-  verdict = rw status (sym status ∙ k.verdict);
-  full = rw status tt;
-  long = rw status tt;
-  refusal = rw status tt;
-  sink = rw status tt;
-  memory = rw status tt;
-}
+neither : (statuses : List ℕ) (b : Bool) → is_among statuses 0 ≡ false → is_among statuses 1 ≡ false → is_among statuses (if b then 0 else 1) ≡ false
+neither statuses true zeroth first = zeroth
+neither statuses false zeroth first = first
 
-played_1 : (l : Loaded) (old new : Option (List ℕ)) (e : Ended) → IsPlayed l old new e → e.status ≡ 1 → IsEndOf (Ok l) old new e
-played_1 l old new e k status = record {
-  all_read = rw status refl;
-  room = rw status k.room;
-  history = rw status k.history;
-  phases = rw status k.phases;
-  stopped = rw status tt;
-  none_out = rw status tt;
-  legal = rw status k.legal;
-  text = rw status k.text;
-  verdict = rw status (sym status ∙ k.verdict);
-  full = rw status tt;
-  long = rw status tt;
-  refusal = rw status tt;
-  sink = rw status tt;
-  memory = rw status tt;
+-- a fact at none of these two statuses
+at_others : (statuses : List ℕ) (s : ℕ) (b : Bool) (P : Type 0) → s ≡ (if b then 0 else 1) → is_among statuses 0 ≡ false → is_among statuses 1 ≡ false → At statuses s P
+at_others statuses s b P is zeroth first = rw (is, neither statuses b zeroth first) tt
+
+played : (l : Loaded) (old new : Option (List ℕ)) (e : Ended) (b : Bool) → IsPlayed l old new e → e.status ≡ (if b then 0 else 1) → IsEndOf (Ok l) old new e
+played l old new e b k status = record {
+  all_read = at_some (0 ∷ 1 ∷ 7 ∷ []) e.status _ refl;
+  room = at_some (0 ∷ 1 ∷ []) e.status _ k.room;
+  history = at_some (0 ∷ 1 ∷ []) e.status _ k.history;
+  phases = at_some (0 ∷ 1 ∷ []) e.status _ k.phases;
+  stopped = at_others (4 ∷ 5 ∷ 7 ∷ []) e.status b _ status refl refl;
+  none_out = at_others (4 ∷ 5 ∷ 7 ∷ []) e.status b _ status refl refl;
+  legal = at_some (0 ∷ 1 ∷ 4 ∷ 5 ∷ 7 ∷ []) e.status _ k.legal;
+  text = at_some (0 ∷ 1 ∷ 7 ∷ []) e.status _ k.text;
+  verdict = at_some (0 ∷ 1 ∷ []) e.status _ k.verdict;
+  full = at_others (7 ∷ []) e.status b _ status refl refl;
+  long = at_others (7 ∷ []) e.status b _ status refl refl;
+  refusal = at_others (2 ∷ []) e.status b _ status refl refl;
+  sink = at_others (4 ∷ []) e.status b _ status refl refl;
+  memory = at_others (5 ∷ []) e.status b _ status refl refl;
 }
 
 is_played : (l : Loaded) (old new : Option (List ℕ)) (e : Ended) (b : Bool) → IsFit l → ScriptIsPhased → IsModel (ground_of l).first → IsWhole (ground_of l) l.phases old new e.journal → Legal (ground_of l) (reverse e.journal) → ends_pass (text_of (ground_of l) e.journal) ≡ b → e.status ≡ (if b then 0 else 1) → IsPlayed l old new e
@@ -381,8 +371,8 @@ left_end l old new e u legal stop status = record {
 
 -- All ends of a run.
 ended_by : (l : Loaded) (old new : Option (List ℕ)) (e : Ended) (end : End) → IsFit l → ScriptIsPhased → StopIsPhased → FullIsLong → IsModel (ground_of l).first → IsEndedBy (ground_of l) l.phases old new e.journal end → Legal (ground_of l) (reverse e.journal) → e.status ≡ status_at end → IsEndOf (Ok l) old new e
-ended_by l old new e ending.Passed fit law stops longs model k legal status = played_0 l old new e (is_played l old new e true fit law model k.0 legal k.1 status) status
-ended_by l old new e ending.Failed fit law stops longs model k legal status = played_1 l old new e (is_played l old new e false fit law model k.0 legal k.1 status) status
+ended_by l old new e ending.Passed fit law stops longs model k legal status = played l old new e true (is_played l old new e true fit law model k.0 legal k.1 status) status
+ended_by l old new e ending.Failed fit law stops longs model k legal status = played l old new e false (is_played l old new e false fit law model k.0 legal k.1 status) status
 ended_by l old new e ending.Unwritten fit law stops longs model k legal status =
     let alone : returned (reverse e.journal) ≡ reverse e.journal = ap (λ (cs : List Given). returns cs ++ reverse e.journal) k.none_out in
     unwritten_end l old new e k legal (stops (ground_of l) l.phases e.journal fit.specs.numbered model fit.order (record { front = reverse e.journal; within = k.within; back = sym alone })) status

@@ -9,10 +9,11 @@ use Rattle.audit_model.specs.Serial.{serial as history_of, meets_full as is_fill
 use Rattle.serial_run.specs.declared.run.End.{End}
 use Rattle.serial_run.specs.declared.run.End.TheVariants as ending
 use Rattle.ids_live.specs.declared.load.Loaded.{Loaded}
+use Rattle.ids_live.specs.Inputs.{instance_limit}
 
 -- The ground of the history: the specifications, the model of the file's instances, and the limits of the program.
 abbrev pub ground_of : Loaded → Ground
-ground_of l = record { specs = l.specs; first = model_of_file l.instances; limits = record { steps = 16777216; revisions = 100000; instances = 2000000 } }
+ground_of l = record { specs = l.specs; first = model_of_file l.instances; limits = record { steps = 16777216; revisions = 100000; instances = instance_limit } }
 
 -- the history that the script makes
 unfoldable pub serial : Loaded → List StepRec

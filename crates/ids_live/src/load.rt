@@ -6,7 +6,7 @@ ghost use Rattle.audit_model.specs.ScriptOrder.{AreOrderly};
 ghost use Rattle.audit_model.specs.Specifications.{AreSpecifications};
 ghost use Rattle.shelf_io.specs.Pieces.{IsMissing};
 ghost use Rattle.ids_live.specs.Fitness.{IsFit};
-ghost use Rattle.ids_live.specs.Inputs.{limit, model_limit, past_mark};
+ghost use Rattle.ids_live.specs.Inputs.{limit, model_limit, instance_limit, past_mark};
 ghost use Rattle.ids_live.specs.Inputs.{schema_read, specs_read, model_read, script_read, loaded_of};
 ghost use Rattle.ids_live.specs.Reading.{CameTo, IsCut, IsPart, IsInput, AreInputs};
 ghost use Rattle.ids_live.specs.Stops.{Reads, LeavesShelf, StaysSteady, IsOutside, Stopped};
@@ -112,7 +112,7 @@ fn load_model<S: Shelf>(alloc: Global, shelf: &mut S, name: &str) -> Result<Inst
     ensures stopped { Stopped (IsCut name.now model_limit (S.reads shelf.old) (S.reads shelf.new))
         (IsPart name.now model_limit (S.reads shelf.old) (S.reads shelf.new)) result }
     ensures distinct { IfOk result HasDistinctIds }
-    ensures few { IfOk result (λ instances. length instances ≤ 2000000) }
+    ensures few { IfOk result (λ instances. length instances ≤ instance_limit) }
 {
     let Some(bytes) = whole_input(alloc, shelf, name, MODEL_LIMIT)? else {
         return Err(Stop::Refused(Refused::TooLong(Input::Model)));

@@ -1,6 +1,7 @@
 -- The first character, where it is one of ASCII.
-use Rattle.std.proofs.Common.{◌≡◌, ℕ, ◌<◌, ◌≤◌, Bool, true, false, List, [], ◌∷◌, ◌++◌, length, drop, Option, Some, None, slice_index_or, refl, sym, ap, ◌∙◌, arith, inl, inr, ◌⊎◌}
-use Rattle.std.specs.Prelude.{nat_lt}
+use Rattle.std.proofs.Common.{◌≡◌, ℕ, ◌-◌, ◌<◌, ◌≤◌, Bool, true, false, List, [], ◌∷◌, ◌++◌, length, take, drop, Option, Some, None, slice_index_or, refl, sym, ap, ◌∙◌, arith, inl, inr, ◌⊎◌}
+use Rattle.std.specs.Prelude.{nat_lt, is_some, IsSome, IfSome}
+use Rattle.std.specs.Char.{is_ascii_digit}
 use Rattle.std.proofs.lemmas.Bool.{cases_lt}
 use Rattle.std.proofs.lemmas.Bool.Decides.{nat_tests}
 use Rattle.std.proofs.lemmas.Str.{encode_ascii}
@@ -10,7 +11,7 @@ use Rattle.reading.specs.Codes.{mark, codes_of}
 use Rattle.reading.specs.Reading.{Text, ascii, first}
 use Rattle.reading.specs.Runs.{begins}
 use Rattle.reading.proofs.RunLaws.{false_or_true}
-use Rattle.reading.proofs.Codes.{codes_nil, codes_ascii, codes_byte, codes_char}
+use Rattle.reading.proofs.Codes.{codes_nil, codes_ascii, codes_byte, codes_char, ascii_slice}
 
 ascii_low : (c : ℕ) (t : Text) → c < 128 → ascii (c ∷ t) ≡ Some c
 ascii_low c t low = let is : nat_lt c 128 ≡ true = grind (arith, nat_tests) in rw is refl
@@ -59,6 +60,20 @@ front_high (b ∷ t) some high = high_byte b t high
 
 pub ruleset front_ascii = (front_end, front_low, front_high)
 
+pub pass_some : (bytes : List ℕ) → IsSome (ascii (codes_of bytes)) → 0 < length bytes
+pass_some [] is = let none : is_some (ascii (codes_of [])) ≡ false = ap (λ (t : Text). is_some (ascii t)) codes_nil in absurd cc
+pass_some (b ∷ t) is = omega arith
+
+-- what is left behind the character
+pub pass_left : (bytes : List ℕ) → 0 < length bytes → IfSome (ascii (codes_of bytes)) (λ c. codes_of bytes ≡ c ∷ codes_of (take (length bytes - 1) (drop 1 bytes)))
+pass_left bytes some =
+    elim (cases_lt (slice_index_or bytes 0 0) 128) [
+      | inl low ↦ rw (front_low bytes some low) (ascii_slice bytes some low)
+      | inr high ↦ rw (front_high bytes some high) tt
+    ]
+
+pub ruleset pass_laws = (pass_some, pass_left)
+
 -- ---- by what stands next, for tactics
 
 some_is : (x y : ℕ) → ◌≡◌ {A = Option ℕ} (Some x) (Some y) → x ≡ y
@@ -96,3 +111,23 @@ no_ascii class (c ∷ t) e low =
     ]
 
 pub ruleset ascii_laws = (ascii_is, ascii_first, ascii_begins)
+
+-- ---- digits, by the first byte of a slice
+
+digit_low : (c : ℕ) → is_ascii_digit c ≡ true → c < 128
+digit_low c is = grind (arith, nat_tests)
+
+pub digit_end : (bytes : List ℕ) → length bytes ≡ 0 → begins is_ascii_digit (codes_of bytes) ≡ false
+digit_end bytes none = no_ascii is_ascii_digit (codes_of bytes) (front_end bytes none) digit_low
+
+pub digit_here : (bytes : List ℕ) → 0 < length bytes → is_ascii_digit (slice_index_or bytes 0 0) ≡ true → codes_of bytes ≡ slice_index_or bytes 0 0 ∷ codes_of (take (length bytes - 1) (drop 1 bytes))
+digit_here bytes some is = ascii_slice bytes some (digit_low (slice_index_or bytes 0 0) is)
+
+pub digit_not : (bytes : List ℕ) → 0 < length bytes → is_ascii_digit (slice_index_or bytes 0 0) ≡ false → begins is_ascii_digit (codes_of bytes) ≡ false
+digit_not bytes some not =
+    elim (cases_lt (slice_index_or bytes 0 0) 128) [
+      | inl low ↦ ascii_begins is_ascii_digit (codes_of bytes) (slice_index_or bytes 0 0) (front_low bytes some low) ∙ not
+      | inr high ↦ no_ascii is_ascii_digit (codes_of bytes) (front_high bytes some high) digit_low
+    ]
+
+pub ruleset digit_laws = (digit_end, digit_here, digit_not)

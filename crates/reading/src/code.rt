@@ -46,8 +46,8 @@ impl Code {
     }
 }
 
-/// The number of what stands at the front of the bytes: a character's code, or the mark of a byte that begins none. A number and not
-/// a `Code`, since it comes back in a register. `O(1)`.
+/// The number of what stands at the front of the bytes: a character's code, or the mark of a byte that
+/// begins none. A number and not a `Code`, since it comes back in a register. `O(1)`.
 #[inline(never)]
 #[tactic(auto, using(crate::proofs::Widths::front_laws))]
 fn wide_number(bytes: &[u8]) -> u32

@@ -1,6 +1,7 @@
 //! What is still to read, over bytes.
 
-ghost use Rattle.std.specs.Prelude.{◌≡◌, ◌∷◌, [], MatchOption, drop, if◌then◌else◌};
+ghost use Rattle.std.specs.Prelude.{◌≡◌, ◌∷◌, [], MatchOption, IsSome, IfSome, drop, true, false, if◌then◌else◌};
+ghost use Rattle.std.specs.Char.{is_ascii_digit};
 ghost use Rattle.std.specs.Option.{option_map};
 ghost use Rattle.reading.specs.Codes.{code_of, codes_of};
 ghost use Rattle.reading.specs.Reading.{ascii, first, turns};
@@ -45,7 +46,8 @@ impl<'a> Cursor<'a> {
         self.bytes
     }
 
-    /// Takes what stands next: a character, or a byte that begins none. At the end there is nothing, and the cursor stays. `O(1)`.
+    /// Takes what stands next: a character, or a byte that begins none. At the end there is nothing, and
+    /// the cursor stays. `O(1)`.
     #[inline(always)]
     #[tactic(auto, using(crate::proofs::Codes::next_laws))]
     pub fn next(&mut self) -> Option<Code>
@@ -123,6 +125,35 @@ impl<'a> Cursor<'a> {
         if !bytes.is_empty() {
             let byte = bytes[0];
             if byte < 0x80 {
+                return Some(byte);
+            }
+        }
+        None
+    }
+
+    /// Passes the character of ASCII that stands next. Nothing is decoded. `O(1)`.
+    #[inline(always)]
+    #[tactic(auto, using(crate::proofs::Ascii::pass_laws))]
+    pub fn pass_ascii(&mut self)
+        requires { IsSome (ascii self.old) }
+        ensures { IfSome (ascii self.old) (λ byte. self.old ≡ byte ∷ self.new) }
+    {
+        self.bytes = &self.bytes[1..];
+    }
+
+    /// Takes the next character as a byte, if it is a digit of ASCII; else there is nothing, and the cursor
+    /// stays. Nothing is decoded. `O(1)`.
+    #[inline(always)]
+    #[tactic(auto, using(crate::proofs::Ascii::digit_laws))]
+    pub fn next_digit(&mut self) -> Option<u8>
+        ensures is { MatchOption result (begins is_ascii_digit self.old ≡ false) (λ byte. is_ascii_digit byte ≡ true) }
+        ensures left { MatchOption result (self.new ≡ self.old) (λ byte. self.old ≡ byte ∷ self.new) }
+    {
+        let bytes = self.bytes;
+        if !bytes.is_empty() {
+            let byte = bytes[0];
+            if matches!(byte, b'0'..=b'9') {
+                self.bytes = &bytes[1..];
                 return Some(byte);
             }
         }

@@ -8,7 +8,8 @@ use crate::cursor::Cursor;
 use crate::stop::Stop;
 use ifc_base::Refusal;
 
-/// The first fault of a text: its cause, and the line in which the refused token begins, from 1. A line past 4,294,967,295 is that.
+/// The first fault of a text: its cause, and the line in which the refused token begins, from 1. A line
+/// past 4,294,967,295 is that.
 #[derive(Clone, Copy, Debug, PartialEq, Eq)]
 pub struct Fault<C> {
     pub line: u32,

@@ -16,9 +16,9 @@ pub fn text_says()
     ensures { (bytes : List ℕ) → IsUtf8 bytes → codes_of bytes ≡ chars bytes }
 {}
 
-/// Turns never run out. For turns that leave less whenever they go on, any two numbers above the text's length give the
-/// same, whatever cause would be given where turns are spent; and a loop of all turns has more than the length. So no fault comes from
-/// the bound of a loop.
+/// Turns never run out. For turns that leave less whenever they go on, any two numbers above the text's
+/// length give the same, whatever cause would be given where turns are spent; and a loop of all turns
+/// has more than the length. So no fault comes from the bound of a loop.
 pub fn turns_never_run_out<C, S>()
     ensures same { (turn : Turn C S) → Shortens turn → (why other : C) (n m : ℕ) (s : S) (t : List ℕ)
         → length t < n → length t < m

@@ -1,5 +1,6 @@
 pub mod Numbers
 pub mod Trees
+pub mod Lists
 pub mod GapLaws
 pub mod TokenLaws
 pub mod TreeLaws

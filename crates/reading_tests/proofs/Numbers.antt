@@ -1,16 +1,16 @@
 -- Steps of the reader of numbers and of tokens.
-use Rattle.std.proofs.Common.{◌≡◌, ℕ, ◌+◌, ◌*◌, ◌-◌, ◌<◌, ◌≤◌, Bool, true, false, List, [], ◌∷◌, Some, None, Ok, eqb, refl, sym, ap, ◌∙◌, subst, inl, inr, arith}
-use Rattle.std.specs.Prelude.{nat_le, nat_lt}
+use Rattle.std.proofs.Common.{◌≡◌, ℕ, ◌+◌, ◌*◌, ◌-◌, ◌<◌, ◌≤◌, true, false, List, [], ◌∷◌, Some, None, Ok, eqb, refl, ap, ◌∙◌, inl, inr, arith}
+use Rattle.std.specs.Prelude.{nat_le}
 use Rattle.std.proofs.lemmas.Bool.Decides.{nat_tests}
 use Rattle.reading.specs.Codes.{is_mark, char_of}
 use Rattle.reading.specs.Reading.{Text, refuse, ascii, first}
 use Rattle.reading.specs.Runs.{begins, run}
-use Rattle.reading.proofs.Ascii.{ascii_is, ascii_none, ascii_begins, no_ascii}
+use Rattle.reading.proofs.Ascii.{ascii_none}
 use Rattle.reading.proofs.RunLaws.{run_more, run_stop}
 use Rattle.reading.proofs.Tools.{tested}
 use Rattle.reading_tests.specs.declared.tree.Cause.TheVariants.{BadByte, BadNumber, BadToken}
 use Rattle.reading_tests.specs.declared.token.Token.TheVariants.{End}
-use Rattle.reading_tests.specs.Nest.{is_digit, number_from, most, number, token_of, token_here}
+use Rattle.reading_tests.specs.Nest.{is_digit, number_from, number, token_of, token_here}
 
 pub number_more : (at : Text) (n c : ℕ) (t : Text) → is_digit c ≡ true → number at n (run is_digit (c ∷ t)) ≡ number at (10 * n + (c - 48)) (run is_digit t)
 unfolding number number_from
@@ -25,7 +25,7 @@ unfolding number_from
 grows [] n = omega arith
 grows (d ∷ ds) n = omega (arith, grows ds (10 * n + (d - 48)))
 
-pub number_past : (at : Text) (n c : ℕ) (t : Text) → is_digit c ≡ true → 999999999 < 10 * n + (c - 48) → number at n (run is_digit (c ∷ t)) ≡ refuse BadNumber at
+pub number_past : (at : Text) (n c : ℕ) (t : Text) → is_digit c ≡ true → 99999999 < n → number at n (run is_digit (c ∷ t)) ≡ refuse BadNumber at
 unfolding number
 number_past at n c t is past =
     let r = run is_digit t in
@@ -33,13 +33,7 @@ number_past at n c t is past =
     let big : nat_le (number_from (10 * n + (c - 48)) r.0) 999999999 ≡ false = grind (arith, nat_tests) in
     number_more at n c t is ∙ rw big refl
 
-digit_low : (c : ℕ) → is_digit c ≡ true → c < 128
-digit_low c is = grind (arith, nat_tests)
-
-pub digit_none : (t : Text) → ascii t ≡ None → begins is_digit t ≡ false
-digit_none t e = no_ascii is_digit t e digit_low
-
-pub ruleset number_laws = (number_more, number_end, number_past, digit_none, ascii_begins, ascii_is)
+pub ruleset number_laws = (number_more, number_end, number_past)
 
 -- ---- tokens
 

@@ -1,5 +1,5 @@
 -- What is spelled as a tree is read as that tree.
-use Rattle.std.proofs.Common.{◌≡◌, ℕ, ◌≤◌, true, List, [], ◌∷◌, ◌++◌, length, Option, Some, None, Ok, refl, sym, ap, ◌∙◌, subst, append_assoc, arith}
+use Rattle.std.proofs.Common.{◌≡◌, ℕ, ◌≤◌, true, List, [], ◌∷◌, ◌++◌, length, Option, Some, Ok, refl, sym, ap, ◌∙◌, subst, append_assoc, arith}
 use Rattle.std.proofs.lemmas.List.{append-nil}
 use Rattle.reading.specs.Reading.{Text, Refused, Read, ◌>>=◌, all_turns}
 use Rattle.reading.proofs.Tools.{bound, ok_is, Run, all_run}
@@ -19,7 +19,7 @@ abbrev pub tree_at : ℕ → Option Text → Text → Read Cause Tree
 tree_at d outer t = token t >>= λ x. tree d outer x.0 x.1
 
 mutual
-  spells_shorter : {d : ℕ} {t : Text} {x : Tree} {u : Text} → Spells d t x u → length u ≤ length t
+  pub spells_shorter : {d : ℕ} {t : Text} {x : Tree} {u : Text} → Spells d t x u → length u ≤ length t
   spells_shorter (Spells.number d m t u n) = Next-shorter n
   spells_shorter (Spells.list d items t r u n inside) = omega (arith, Next-shorter n, items_shorter inside)
 

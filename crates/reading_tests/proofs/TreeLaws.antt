@@ -1,7 +1,7 @@
 -- Trees: what is read is spelled so.
 use Rattle.std.proofs.Common.{◌≡◌, ℕ, zero, suc, Bool, true, false, List, [], ◌∷◌, ◌++◌, Option, Some, None, Ok, refl, sym, ap, ◌∙◌, subst, append_assoc}
 use Rattle.std.proofs.lemmas.List.{append-nil}
-use Rattle.reading.specs.Reading.{Text, Refused, Turn, ◌>>=◌, turns, all_turns}
+use Rattle.reading.specs.Reading.{Text, Refused, turns, all_turns}
 use Rattle.reading.proofs.Tools.{bound, ok_is, each_sound}
 use Rattle.reading_tests.specs.declared.tree.Cause.{Cause}
 use Rattle.reading_tests.specs.declared.tree.Cause.TheVariants.{BadToken}
@@ -31,7 +31,7 @@ module _ (d : ℕ) (inner : Reader) (inner_sound : IsSound d inner) (at : Text) 
       let wrong : true ≡ false = ap (λ (x : Step). x.0.0) (ok_is {E = Refused Cause} ((true, s ++ c.0.0 ∷ []), c.0.1) ((false, r), u) c.2) in absurd cc
   step_last k here t m s r u n e = absurd cc
 
-  step_more : (k : Token) (here t m : Text) (s r : List Tree) (u : Text) → Next t k m → list_step inner at s k here m ≡ Ok ((true, r), u)
+  pub step_more : (k : Token) (here t m : Text) (s r : List Tree) (u : Text) → Next t k m → list_step inner at s k here m ≡ Ok ((true, r), u)
       → (f : Tree) × (s ++ f ∷ [] ≡ r) × Next t Comma m × Spells d m f u
   step_more Close here t m s r u n e =
       let wrong : false ≡ true = ap (λ (x : Step). x.0.0) (ok_is {E = Refused Cause} ((false, s), m) ((true, r), u) e) in absurd cc

@@ -1,7 +1,6 @@
 -- Steps of the reader of trees.
 use Rattle.std.proofs.Common.{◌≡◌, ℕ, zero, suc, ◌-◌, ◌<◌, Option, Some, None, refl, arith, ap}
 use Rattle.reading.specs.Reading.{Text}
-use Rattle.reading.proofs.Each.{each_laws}
 use Rattle.reading_tests.specs.Nest.{Lexed, Reader, tree, tree_with}
 
 -- what reads the trees inside, if they may be one deeper
@@ -24,4 +23,4 @@ unfolding below
 below_some zero lt = absurd (omega arith)
 below_some (suc d) lt = let e : d ≡ suc d - 1 = omega arith in ap (λ n. Some (tree n)) e
 
-pub ruleset tree_laws = (tree_is, below_none, below_some, each_laws)
+pub ruleset tree_laws = (tree_is, below_none, below_some)

@@ -5,6 +5,7 @@ ghost use Rattle.reading.specs.Codes.{codes_of};
 ghost use Rattle.reading.specs.Lines.{Answers};
 ghost use Rattle.reading.specs.Reading.{Gives, Yields, Fails};
 ghost use Rattle.reading_tests.specs.declared.tree.Tree.{Tree};
+ghost use Rattle.reading_tests.specs.declared.tree.Tree.TheVariants.{Number};
 ghost use Rattle.reading_tests.specs.Nest as spec;
 ghost use Rattle.reading_tests.specs.Grammar.{Reads};
 
@@ -18,8 +19,7 @@ use std::alloc::Global;
 const MAX_DEPTH: usize = 32;
 
 /// Why the token doesn't belong where it stands. `outer` is the innermost parenthesis that is open.
-#[cold]
-#[inline(never)]
+#[inline(always)]
 fn misplaced<'a>(outer: Option<&'a [u8]>, token: Token, at: &'a [u8]) -> Stop<'a, Cause>
     ensures { Fails result (spec.failing (spec.misplaced (spec.place outer.entry) token (codes_of at.now))) }
 {
@@ -30,6 +30,14 @@ fn misplaced<'a>(outer: Option<&'a [u8]>, token: Token, at: &'a [u8]) -> Stop<'a
         },
         _ => Stop::Refused(Cause::BadToken, at),
     }
+}
+
+/// The tree that is this number. A value of its own, so that a list gets it without what a variable held before.
+#[inline(always)]
+fn leaf(n: u32) -> Tree
+    ensures { result ≡ Number n }
+{
+    Tree::Number(n)
 }
 
 /// The tree that begins with the token, in which parentheses nest no deeper than `depth`.
@@ -62,7 +70,7 @@ fn tree<'a>(
 }
 
 /// The list behind the parenthesis at `at`.
-#[tactic(auto, using(crate::proofs::Trees::tree_laws), unfolding(crate::specs::Nest::list, crate::specs::Nest::list_turn))]
+#[tactic(auto, using(crate::proofs::Lists::list_laws), unfolding(crate::specs::Nest::list, crate::specs::Nest::list_turn))]
 #[cycle(read)]
 fn list<'a>(
     alloc: Global,
@@ -80,7 +88,7 @@ fn list<'a>(
         return Ok(Tree::List(items));
     }
     items.push(tree(alloc, depth, Some(at), first, &mut here)?)?;
-    for _ in 0..here.turns() {
+    loop {
         let next = next_token(&mut here)?;
         match next.token {
             Token::Close => {
@@ -91,9 +99,11 @@ fn list<'a>(
             other => return Err(misplaced(Some(at), other, next.at)),
         }
         let first = next_token(&mut here)?;
-        items.push(tree(alloc, depth, Some(at), first, &mut here)?)?;
+        match first.token {
+            Token::Number(n) => items.push(leaf(n))?,
+            _ => items.push(tree(alloc, depth, Some(at), first, &mut here)?)?,
+        }
     }
-    Err(Stop::Refused(Cause::BadToken, here.rest()))
 }
 
 #[tactic(auto, unfolding(crate::specs::Nest::whole))]

@@ -55,8 +55,10 @@ fn number<'a>(cursor: &mut Cursor<'a>, at: &'a [u8], so_far: u32) -> Result<u32,
 fn token_of<'a>(cursor: &mut Cursor<'a>, at: &'a [u8], byte: u8) -> Result<Token, Stop<'a, Cause>>
     ensures { Gives (λ token. token) result cursor.new (spec.token_of (codes_of at.now) byte cursor.old) }
 {
+    if matches!(byte, b'0'..=b'9') {
+        return Ok(Token::Number(number(cursor, at, u32::from(byte - b'0'))?));
+    }
     match byte {
-        b'0'..=b'9' => Ok(Token::Number(number(cursor, at, u32::from(byte - b'0'))?)),
         b',' => Ok(Token::Comma),
         b'(' => Ok(Token::Open),
         b')' => Ok(Token::Close),

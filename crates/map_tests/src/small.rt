@@ -1,4 +1,5 @@
-ghost use Rattle.std.specs.Prelude.{◌^◌, ◌<◌};
+ghost use Rattle.std.specs.Prelude.{◌^◌, ◌<◌, IfOk};
+ghost use Rattle.tree_map.specs.Pairs.{IsAscending, AreBelow};
 
 use ifc_base::Memory;
 use std::alloc::Global;
@@ -86,6 +87,39 @@ fn keys_at_the_edges(rt: HostRuntime) -> Result<(), Fail> {
     Ok(())
 }
 
+fn edges(alloc: Global) -> Result<Vec<(u64, u64)>, Memory>
+    ensures ascending { IfOk result (λ pairs. IsAscending pairs.items) }
+    ensures keys { IfOk result (λ pairs. AreBelow (2 ^ 40) pairs.items) }
+{
+    let pairs = vec![in alloc;
+        (0, 2),
+        (1, 5),
+        (31, 4),
+        (32, 0),
+        (1023, 7),
+        (34359738367, 6),
+        (34359738368, 3),
+        (1099511627775, 1),
+    ]?;
+    Ok(pairs)
+}
+
+#[test]
+fn built_of_ascending_pairs(rt: HostRuntime) -> Result<(), Fail> {
+    let built = TreeMap::of_ascending(rt.alloc(), edges(rt.alloc())?)?;
+    let filled = filled(rt.alloc())?;
+    for map in [&built, &filled] {
+        all_found(&rt, map);
+        assert_eq!(rt; pairs(rt.alloc(), map)?.as_slice(), ORDERED.as_slice());
+        assert_eq!(rt; map.len(), 8);
+        assert_eq!(rt; map.without(rt.alloc(), 2)?.len(), 8);
+        assert_eq!(rt; map.without(rt.alloc(), 32)?.len(), 7);
+        assert_eq!(rt; map.without(rt.alloc(), LAST + 1)?.len(), 8);
+    }
+    assert!(rt; !built.is_empty());
+    Ok(())
+}
+
 #[test]
 fn keys_are_taken_out(rt: HostRuntime) -> Result<(), Fail> {
     let full = filled(rt.alloc())?;
@@ -96,6 +130,7 @@ fn keys_are_taken_out(rt: HostRuntime) -> Result<(), Fail> {
         map = map.without(rt.alloc(), *key)?;
     }
     assert_eq!(rt; pairs(rt.alloc(), &map)?.len(), 0);
+    assert!(rt; map.is_empty());
     all_found(&rt, &full);
     Ok(())
 }

@@ -5,3 +5,5 @@ pub mod Digits
 pub mod Levels
 pub mod Listing
 pub mod Maps
+pub mod Grouping
+pub mod Building

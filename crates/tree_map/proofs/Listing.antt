@@ -7,11 +7,11 @@ use Rattle.tree_map.specs.Pairs.{raised, joined, AreBelow, AllBranches}
 use Rattle.tree_map.specs.Roots.{pairs_in, seen}
 
 module _ {V : Type 0} where
-  raised_append : (n : ℕ) (xs ys : List (ℕ × V)) → raised n (xs ++ ys) ≡ raised n xs ++ raised n ys
+  pub raised_append : (n : ℕ) (xs ys : List (ℕ × V)) → raised n (xs ++ ys) ≡ raised n xs ++ raised n ys
   raised_append n [] ys = refl
   raised_append n (x ∷ xs) ys = ap (λ zs. (n + x.0, x.1) ∷ zs) (raised_append n xs ys)
 
-  raised_twice : (m n : ℕ) (xs : List (ℕ × V)) → raised m (raised n xs) ≡ raised (m + n) xs
+  pub raised_twice : (m n : ℕ) (xs : List (ℕ × V)) → raised m (raised n xs) ≡ raised (m + n) xs
   raised_twice m n [] = refl
   raised_twice m n (x ∷ xs) =
       let key : m + (n + x.0) ≡ (m + n) + x.0 = omega arith in
@@ -69,11 +69,11 @@ pub first_is : (from first d x w n : ℕ) → first ≡ from + d * 2 ^ x → d �
 first_is from first d x w n f e k = f ∙ ap (λ y. from + y * 2 ^ x) e ∙ ap (λ y. from + n * 2 ^ y) k
 
 module _ {B V : Type 0} (size : ℕ) (pairs : B → List (ℕ × V)) where
-  joined_append : (bs cs : List (ℕ × B)) → joined size pairs (bs ++ cs) ≡ joined size pairs bs ++ joined size pairs cs
+  pub joined_append : (bs cs : List (ℕ × B)) → joined size pairs (bs ++ cs) ≡ joined size pairs bs ++ joined size pairs cs
   joined_append [] cs = refl
   joined_append (b ∷ bs) cs = ap (λ xs. raised (b.0 * size) (pairs b.1) ++ xs) (joined_append bs cs) ∙ sym (append_assoc (raised (b.0 * size) (pairs b.1)) (joined size pairs bs) (joined size pairs cs))
 
-  nothing_more : (xs : List (ℕ × V)) → xs ++ [] ≡ xs
+  pub nothing_more : (xs : List (ℕ × V)) → xs ++ [] ≡ xs
   nothing_more [] = refl
   nothing_more (x ∷ xs) = ap (λ ys. x ∷ ys) (nothing_more xs)
 

@@ -1,3 +1,4 @@
+pub mod Groups
 pub mod Ordered
 pub mod Pairs
 pub mod Places

@@ -33,6 +33,10 @@ AllBranches P (b ∷ bs) = P b.1 × AllBranches P bs
 abbrev pub IsNode : {B V : Type 0} → (B → Type 0) → (B → List (ℕ × V)) → List (ℕ × B) → Type 0
 IsNode IsWhole pairs bs = IsAscending bs × AreBelow 32 bs × AllBranches IsWhole bs × AllBranches (λ b. pairs b ≢ []) bs
 
+-- nodes by their numbers, which rise: each is what has to be there, with at least one pair
+abbrev pub AreNodes : {B V : Type 0} → (B → Type 0) → (B → List (ℕ × V)) → List (ℕ × B) → Type 0
+AreNodes IsWhole pairs bs = IsAscending bs × AllBranches IsWhole bs × AllBranches (λ b. pairs b ≢ []) bs
+
 -- the pairs of what was found below a digit: none, where nothing was found
 abbrev pub pairs_of : {B V : Type 0} → (B → List (ℕ × V)) → Option B → List (ℕ × V)
 pairs_of pairs None = []

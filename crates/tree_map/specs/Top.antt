@@ -4,6 +4,13 @@ use Rattle.tree_map.specs.declared.level.Level.{Level}
 use Rattle.tree_map.specs.declared.lowest.Lowest.{Lowest}
 use Rattle.tree_map.specs.Pairs.{joined, IsAscending, AreBelow, IsNode}
 
+-- the number of a node, and its branches
+abbrev pub level_parts : {B : Type 0} → ℕ × Level B → ℕ × List (ℕ × B)
+level_parts node = (node.0, node.1.branches.items)
+
+abbrev pub lowest_parts : {V : Type 0} → ℕ × Lowest V → ℕ × List (ℕ × V)
+lowest_parts node = (node.0, node.1.level.branches.items)
+
 -- how many bits the keys of a level have, its pairs, and that it is in order
 pub record Meaning (B V : Type 0) : Type 1 where
   pub width : ℕ

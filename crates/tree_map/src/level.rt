@@ -1,11 +1,13 @@
-ghost use Rattle.std.specs.Prelude.{◌≡◌, ◌+◌, ◌^◌, ◌<◌, ◌≤◌, OnOk, IfOk, MatchResult};
+ghost use Rattle.std.specs.Prelude.{◌≡◌, ◌+◌, ◌^◌, ◌<◌, ◌≤◌, map, OnOk, IfOk, MatchResult};
 ghost use Rattle.std.specs.Ordering.{nat_cmp};
 ghost use Rattle.std.specs.FinMap.{find};
 ghost use Rattle.std.specs.Arc.{arc_value};
 ghost use Rattle.tree_map.specs.Ordered.{ordered_joined};
-ghost use Rattle.tree_map.specs.Pairs.{joined, pairs_of, AllBranches, IsAscending, IsNode, Updates};
+ghost use Rattle.tree_map.specs.Pairs.{joined, pairs_of, AllBranches, AreNodes, IsAscending, IsNode, Updates};
+ghost use Rattle.tree_map.specs.Top.{level_parts};
 
 use crate::branch::Branch;
+use crate::group::{Group, grouped};
 use crate::node::{below_digit, cut_branch, make_room, set_branch, share_node};
 use crate::tier::{Tier, split, start};
 use ifc_base::Memory;
@@ -56,6 +58,18 @@ pub(crate) fn put_below<V, B: Tier<V>>(
         Some(tier) => tier.put(alloc, bits, key, value),
         None => Err((Memory, value)),
     }
+}
+
+/// The nodes of these groups.
+fn levels<B: Drop>(alloc: Global, groups: Vec<Group<B>>) -> Result<Vec<(u64, Level<B>)>, Memory>
+    ensures { IfOk result (λ nodes. map level_parts nodes.items ≡ groups.items) }
+{
+    let mut nodes = Vec::with_capacity(alloc, groups.len())?;
+    for group in groups {
+        let (high, branches) = group.into_parts();
+        nodes.push((high, Level { branches }))?;
+    }
+    Ok(nodes)
 }
 
 impl<V: Drop, B: Tier<V>> Tier<V> for Level<B> {
@@ -129,5 +143,16 @@ impl<V: Drop, B: Tier<V>> Tier<V> for Level<B> {
             branch.below().list(bits - 5, first, into)?;
         }
         Ok(())
+    }
+
+    fn build(alloc: Global, items: Vec<(u64, V)>) -> Result<Vec<(u64, Level<B>)>, Memory>
+        requires { IsAscending items.items }
+        ensures nodes { IfOk result (λ nodes. AreNodes (λ t. IsNode B.IsWhole B.pairs t.branches.items) (λ t. joined (2 ^ B.width) B.pairs t.branches.items) nodes.items) }
+        ensures pairs { IfOk result (λ nodes. joined (2 ^ (B.width + 5)) (λ t. joined (2 ^ B.width) B.pairs t.branches.items) nodes.items ≡ items.items) }
+    {
+        let below = B::build(alloc, items)?;
+        let groups = grouped(alloc, below)?;
+        let nodes = levels(alloc, groups)?;
+        Ok(nodes)
     }
 }

@@ -7,6 +7,7 @@
 #![tactic(auto)]
 
 mod branch;
+mod group;
 mod level;
 mod lowest;
 mod map;

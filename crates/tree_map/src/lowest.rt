@@ -1,6 +1,8 @@
-ghost use Rattle.std.specs.Prelude.{◌≡◌, ◌≢◌};
-ghost use Rattle.tree_map.specs.Pairs.{IsAscending, AreBelow};
+ghost use Rattle.std.specs.Prelude.{◌≡◌, ◌≢◌, ◌^◌, map, IfOk};
+ghost use Rattle.tree_map.specs.Pairs.{joined, IsAscending, AreBelow, AreNodes};
+ghost use Rattle.tree_map.specs.Top.{lowest_parts};
 
+use crate::group::{Group, grouped};
 use crate::level::Level;
 use crate::node::{below_digit, cut_branch, make_room, set_branch, share_node};
 use crate::tier::Tier;
@@ -12,6 +14,22 @@ use std::sync::Arc;
 #[derive(Drop)]
 pub(crate) struct Lowest<V> {
     level: Level<V>,
+}
+
+/// The nodes of these groups.
+fn lowest_levels<V: Drop>(
+    alloc: Global,
+    groups: Vec<Group<V>>,
+) -> Result<Vec<(u64, Lowest<V>)>, Memory>
+    ensures { IfOk result (λ nodes. map lowest_parts nodes.items ≡ groups.items) }
+{
+    let mut nodes = Vec::with_capacity(alloc, groups.len())?;
+    for group in groups {
+        let (high, branches) = group.into_parts();
+        let level = Level { branches };
+        nodes.push((high, Lowest { level }))?;
+    }
+    Ok(nodes)
 }
 
 impl<V: Drop> Tier<V> for Lowest<V> {
@@ -77,5 +95,15 @@ impl<V: Drop> Tier<V> for Lowest<V> {
             into.push((from + branch.digit() as u64, branch.below()))?;
         }
         Ok(())
+    }
+
+    fn build(alloc: Global, items: Vec<(u64, V)>) -> Result<Vec<(u64, Lowest<V>)>, Memory>
+        requires { IsAscending items.items }
+        ensures nodes { IfOk result (λ nodes. AreNodes (λ t. IsAscending t.level.branches.items × AreBelow 32 t.level.branches.items) (λ t. t.level.branches.items) nodes.items) }
+        ensures pairs { IfOk result (λ nodes. joined (2 ^ 5) (λ t. t.level.branches.items) nodes.items ≡ items.items) }
+    {
+        let groups = grouped(alloc, items)?;
+        let nodes = lowest_levels(alloc, groups)?;
+        Ok(nodes)
     }
 }

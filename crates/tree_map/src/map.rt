@@ -1,11 +1,12 @@
-ghost use Rattle.std.specs.Prelude.{◌≡◌, ◌^◌, ◌<◌, IfOk, MatchResult};
+ghost use Rattle.std.specs.Prelude.{◌≡◌, ℕ, ◌+◌, ◌^◌, ◌<◌, ◌≤◌, ◌==◌, if◌then◌else◌, None, IfOk, MatchResult};
 ghost use Rattle.std.specs.Option.{option_copied};
 ghost use Rattle.std.specs.Ordering.{nat_cmp};
 ghost use Rattle.std.specs.FinMap as map;
+ghost use Rattle.tree_map.specs.Pairs.{IsAscending, AreBelow};
 
 use crate::level::Level;
 use crate::lowest::Lowest;
-use crate::root::{Root, get_root, list_root, share_root, with_root, without_root};
+use crate::root::{Root, built_root, get_root, list_root, share_root, with_root, without_root};
 use crate::tier::Tier;
 use crate::walk::Walk;
 use ifc_base::Memory;
@@ -29,9 +30,11 @@ type Top<V> = Level<Level<Level<Level<Level<Level<Level<Lowest<V>>>>>>>>;
 #[derive(Drop)]
 pub struct TreeMap<V: Drop> {
     root: Root<Top<V>>,
+    count: usize,
 }
 
 impl<V: Drop> Model for TreeMap<V> {
+    ghost use Rattle.std.specs.Prelude.{◌≡◌, length};
     ghost use Rattle.std.specs.Ordering.{nat_cmp};
     ghost use Rattle.std.specs.FinMap as map;
     ghost use Rattle.std.specs.Coded.{coded_ℕ};
@@ -44,7 +47,7 @@ impl<V: Drop> Model for TreeMap<V> {
 
     ghost view = { λ tree. map.from_sorted (pairs_in top.pairs tree.root) };
 
-    ghost invariant = { λ tree. IsWholeRoot top.IsWhole tree.root };
+    ghost invariant = { λ tree. IsWholeRoot top.IsWhole tree.root × (tree.count ≡ length (pairs_in top.pairs tree.root)) };
 }
 
 impl<V: Drop> TreeMap<V> {
@@ -52,7 +55,36 @@ impl<V: Drop> TreeMap<V> {
     pub fn new() -> TreeMap<V>
         ensures { result ≡ map.empty }
     {
-        TreeMap { root: None }
+        TreeMap {
+            root: None,
+            count: 0,
+        }
+    }
+
+    /// The map of these pairs, whose keys have to rise and be below 2^40. Each node takes the memory of its
+    /// branches and no more. `O(n)` for `n` pairs; for the while it takes 32 bytes for each node.
+    pub fn of_ascending(alloc: Global, pairs: Vec<(u64, V)>) -> Result<TreeMap<V>, Memory>
+        requires ascending { IsAscending pairs.items }
+        requires keys { AreBelow (2 ^ 40) pairs.items }
+        ensures { IfOk result (λ made. map.entries made ≡ pairs.items) }
+    {
+        let count = pairs.len();
+        let root = built_root(alloc, pairs)?;
+        Ok(TreeMap { root, count })
+    }
+
+    /// How many pairs there are. `O(1)`.
+    pub fn len(&self) -> usize
+        ensures { result ≡ map.len self.now }
+    {
+        self.count
+    }
+
+    /// Whether there is no pair. `O(1)`.
+    pub fn is_empty(&self) -> bool
+        ensures { result ≡ (map.len self.now == 0) }
+    {
+        self.count == 0
     }
 
     /// The value of the key, and None where it has none, as a key of 2^40 or more. Eight steps at most, each of
@@ -67,6 +99,16 @@ impl<V: Drop> TreeMap<V> {
         get_root(root, BITS, key)
     }
 
+    /// How many pairs there are with one of this key.
+    fn len_with(&self, key: u64) -> usize
+        ensures { result ≡ (if map.contains_key self.now key then map.len self.now else map.len self.now + 1) }
+    {
+        match self.get(key) {
+            Some(_) => self.count,
+            None => self.count + 1,
+        }
+    }
+
     /// The map in which the key, which has to be below 2^40, has this value, in the place of the one that it had.
     /// This map stays as it was. For want of memory the value is handed back.
     ///
@@ -75,21 +117,37 @@ impl<V: Drop> TreeMap<V> {
         requires { key < 2 ^ 40 }
         ensures { MatchResult result (λ next. next ≡ map.insert self.now key value) (λ back. back.1 ≡ value) }
     {
+        let count = self.len_with(key);
         let root = with_root(&self.root, alloc, BITS, key, value)?;
-        Ok(TreeMap { root: Some(root) })
+        Ok(TreeMap {
+            root: Some(root),
+            count,
+        })
     }
 
-    /// The map without the pair of this key: an equal one, where the key has no value. This map stays as it was.
-    /// It copies the nodes on the path to the key, at most eight of 32 branches: `O(1)`.
+    /// The map without the pair of this key: an equal one over the same memory, where the key has no value, as
+    /// a key of 2^40 or more. This map stays as it was. It copies the nodes on the path to the key, at most
+    /// eight of 32 branches: `O(1)`.
     pub fn without(&self, alloc: Global, key: u64) -> Result<TreeMap<V>, Memory>
         ensures { IfOk result (λ next. next ≡ map.remove self.now key) }
     {
-        if key >= KEYS {
-            let root = share_root(&self.root)?;
-            return Ok(TreeMap { root });
-        }
+        let Some(_) = self.get(key) else {
+            let same = self.share()?;
+            return Ok(same);
+        };
         let root = without_root(&self.root, alloc, BITS, key)?;
-        Ok(TreeMap { root })
+        Ok(TreeMap {
+            root,
+            count: self.count - 1,
+        })
+    }
+
+    /// No key of 2^40 or more has a value, and to take one out changes nothing.
+    pub fn has_no_great_key(&self)
+        ensures none { (key : ℕ) → 2 ^ 40 ≤ key → map.get self.now key ≡ None }
+        ensures same { (key : ℕ) → 2 ^ 40 ≤ key → map.remove self.now key ≡ self.now }
+    {
+        let _ = &self.root;
     }
 
     /// An equal map over the same memory. It copies no node: `O(1)`.
@@ -97,7 +155,10 @@ impl<V: Drop> TreeMap<V> {
         ensures { IfOk result (λ same. same ≡ self.now) }
     {
         let root = share_root(&self.root)?;
-        Ok(TreeMap { root })
+        Ok(TreeMap {
+            root,
+            count: self.count,
+        })
     }
 
     /// The pairs, in ascending key. It takes 16 bytes for each pair, and copies no value: `O(n)` for `n` pairs.

@@ -3,7 +3,7 @@ ghost use Rattle.std.specs.Option.{option_copied};
 ghost use Rattle.std.specs.Ordering.{nat_cmp};
 ghost use Rattle.std.specs.FinMap.{find};
 ghost use Rattle.std.specs.Arc.{arc_value};
-ghost use Rattle.tree_map.specs.Pairs.{raised, Updates};
+ghost use Rattle.tree_map.specs.Pairs.{raised, AreBelow, IsAscending, Updates};
 ghost use Rattle.tree_map.specs.Roots.{pairs_in, IsWholeRoot, seen};
 
 use crate::level::put_below;
@@ -99,6 +99,23 @@ pub(crate) fn share_root<V, B: Tier<V>>(root: &Root<B>) -> Result<Root<B>, Memor
         return Ok(None);
     };
     Ok(Some(Arc::try_clone(root)?))
+}
+
+/// The root over these pairs, whose keys rise and have no more bits than those of a node.
+pub(crate) fn built_root<V, B: Tier<V>>(
+    alloc: Global,
+    items: Vec<(u64, V)>,
+) -> Result<Root<B>, Memory>
+    requires ascending { IsAscending items.items }
+    requires keys { AreBelow (2 ^ B.width) items.items }
+    ensures whole { IfOk result (IsWholeRoot B.IsWhole) }
+    ensures pairs { IfOk result (λ root. pairs_in B.pairs root ≡ items.items) }
+{
+    let mut nodes = B::build(alloc, items)?;
+    let Some((_, top)) = nodes.pop() else {
+        return Ok(None);
+    };
+    Ok(Some(Arc::new(alloc, top)?))
 }
 
 /// The pairs, in ascending key.

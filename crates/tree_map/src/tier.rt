@@ -3,7 +3,7 @@ ghost use Rattle.std.specs.Prelude.{OnOk, MatchResult};
 ghost use Rattle.std.specs.Option.{option_copied};
 ghost use Rattle.std.specs.Ordering.{nat_cmp};
 ghost use Rattle.std.specs.FinMap.{find};
-ghost use Rattle.tree_map.specs.Pairs.{raised, IsAscending, AreBelow, Updates};
+ghost use Rattle.tree_map.specs.Pairs.{raised, joined, IsAscending, AreBelow, AreNodes, Updates};
 ghost use Rattle.tree_map.specs.Roots.{seen};
 
 use ifc_base::Memory;
@@ -68,6 +68,13 @@ pub(crate) trait Tier<V>: Drop {
         requires bits { (bits ≡ width) × (bits ≤ 40) }
         requires from { from + 2 ^ bits ≤ 2 ^ 40 }
         ensures { OnOk result (map seen into.new.items ≡ map seen into.old.items ++ raised from (pairs self.now)) };
+
+    /// The nodes that together have these items as pairs, whose keys rise: the pairs of each have its number in front
+    /// of their digits. `O(n)` for `n` pairs.
+    fn build(alloc: Global, items: Vec<(u64, V)>) -> Result<Vec<(u64, Self)>, Memory>
+        requires { IsAscending items.items }
+        ensures nodes { IfOk result (λ nodes. AreNodes (λ t. IsWhole t) (λ t. pairs t) nodes.items) }
+        ensures pairs { IfOk result (λ nodes. joined (2 ^ width) (λ t. pairs t) nodes.items ≡ items.items) };
 
     // the pairs are in ascending key, and the keys have no more bits
     ghost ordered: { (t : Self) → IsWhole t → IsAscending (pairs t) × AreBelow (2 ^ width) (pairs t) };

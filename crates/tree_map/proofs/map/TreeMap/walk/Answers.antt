@@ -8,5 +8,5 @@ use Rattle.tree_map.proofs.map.TreeMap.walk.Goals as goal
 
 pub returns : goal.returns
 returns g c =
-    let ordered = root_ordered c.self.inside.root c.self.invariant in
+    let ordered = root_ordered c.self.inside.root c.self.invariant.0 in
     c.new.ensures ∙ c.in_ok-pairs.ensures ∙ sym (entries-from_sorted nat_cmp (pairs_in top.pairs c.self.inside.root) ordered.0) ∙ ap entries c.self.view_is

@@ -1,0 +1,6 @@
+mod AdmitLaws
+mod BuildLaws
+mod Copies
+mod MatchLaws
+mod Splits
+mod Tests

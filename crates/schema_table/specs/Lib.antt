@@ -1,0 +1,13 @@
+pub mod Schema
+pub mod Climbing
+pub mod Declarations
+pub mod Values
+pub mod Attributes
+pub mod Relationships
+pub mod Faults
+pub mod Table
+pub mod Laws
+pub mod Index
+pub mod Order
+pub mod Redeclared
+pub mod Shares

@@ -6,6 +6,7 @@ use Rattle.std.proofs.lemmas.Bool.{eq-eqb, ne_eqb}
 use Rattle.std.proofs.lemmas.List.{append-nil, append_assoc, length-map, map-append}
 use Rattle.std.proofs.lemmas.List.Elements.{filter_map-append}
 use Rattle.ifc_base.specs.declared.value.Instance.{Instance}
+use Rattle.schema_table.specs.Schema.{Schema}
 use Rattle.audit_model.specs.declared.commit.Edit.{Edit}
 use Rattle.audit_model.specs.declared.specification.Specification.{Specification}
 use Rattle.audit_model.specs.declared.verdict.Pair.{Pair}
@@ -27,13 +28,13 @@ use Rattle.audit_core.specs.Tallying.{row_verdicts, verdict_kept, run_length, ta
 abbrev AllSettled : Ground → List (List Edit) → List Given → List Pair → Type 0
 AllSettled g cs us ps = find (λ p. not (settled_by g cs us p)) ps ≡ None
 
-abbrev verdicts_of : List Specification → List Instance → List Pair → List (ℕ × Verdict)
-verdicts_of specs m ps = map (λ p. (p.elem, verdict specs p m)) ps
+abbrev verdicts_of : Schema → List Specification → List Instance → List Pair → List (ℕ × Verdict)
+verdicts_of s specs m ps = map (λ p. (p.elem, verdict s specs p m)) ps
 
-settled_verdicts : (g : Ground) (cs : List (List Edit)) (us : List Given) (ps : List Pair) → AllSettled g cs us ps → row_verdicts (map (row_by g cs us) ps) ≡ verdicts_of g.specs (model_after g cs) ps
+settled_verdicts : (g : Ground) (cs : List (List Edit)) (us : List Given) (ps : List Pair) → AllSettled g cs us ps → row_verdicts (map (row_by g cs us) ps) ≡ verdicts_of g.schema g.specs (model_after g cs) ps
 settled_verdicts g cs us [] e = refl
 settled_verdicts g cs us (p ∷ ps) e =
-    let F : Bool → Type 0 = λ b. cond (not b) (Some p) (find (λ q. not (settled_by g cs us q)) ps) ≡ None → cons_option (verdict_kept p.elem (if b then Some (found g.specs (model_after g cs) p) else None)) (row_verdicts (map (row_by g cs us) ps)) ≡ verdicts_of g.specs (model_after g cs) (p ∷ ps) in
+    let F : Bool → Type 0 = λ b. cond (not b) (Some p) (find (λ q. not (settled_by g cs us q)) ps) ≡ None → cons_option (verdict_kept p.elem (if b then Some (found g.schema g.specs (model_after g cs) p) else None)) (row_verdicts (map (row_by g cs us) ps)) ≡ verdicts_of g.schema g.specs (model_after g cs) (p ∷ ps) in
     let at : F (settled_by g cs us p) = elim (settled_by g cs us p) as F [
       | true ↦ λ k. rw (settled_verdicts g cs us ps k)
       | false ↦ λ k. absurd (cc)
@@ -55,13 +56,13 @@ HaveNumber n ps = Each (λ p. (p.spec == n) ≡ true) ps
 abbrev LackNumber : ℕ → List Pair → Type 0
 LackNumber n ps = Each (λ p. (p.spec == n) ≡ false) ps
 
-own_verdicts : (specs : List Specification) (m : List Instance) (n : ℕ) (ps : List Pair) → HaveNumber n ps → pair_verdicts specs m n ps ≡ verdicts_of specs m ps
-own_verdicts specs m n [] h = refl
-own_verdicts specs m n (p ∷ ps) h = rw (h.0, own_verdicts specs m n ps h.1)
+own_verdicts : (s : Schema) (specs : List Specification) (m : List Instance) (n : ℕ) (ps : List Pair) → HaveNumber n ps → pair_verdicts s specs m n ps ≡ verdicts_of s specs m ps
+own_verdicts s specs m n [] h = refl
+own_verdicts s specs m n (p ∷ ps) h = rw (h.0, own_verdicts s specs m n ps h.1)
 
-no_verdicts : (specs : List Specification) (m : List Instance) (n : ℕ) (ps : List Pair) → LackNumber n ps → pair_verdicts specs m n ps ≡ []
-no_verdicts specs m n [] h = refl
-no_verdicts specs m n (p ∷ ps) h = rw (h.0, no_verdicts specs m n ps h.1)
+no_verdicts : (s : Schema) (specs : List Specification) (m : List Instance) (n : ℕ) (ps : List Pair) → LackNumber n ps → pair_verdicts s specs m n ps ≡ []
+no_verdicts s specs m n [] h = refl
+no_verdicts s specs m n (p ∷ ps) h = rw (h.0, no_verdicts s specs m n ps h.1)
 
 -- what holds of the number of a specification holds of its pairs
 each_of : (P : ℕ → Type 0) (q : Specification) (m : List Instance) → P q.number → Each (λ (p : Pair). P p.spec) (pairs_of q m)
@@ -89,12 +90,12 @@ run_is g cs us n [] (q ∷ qs) a b = rw b.0
 run_is g cs us n (p ∷ ps) qs a b = rw (a.0, run_is g cs us n ps qs a.1 b) (omega arith)
 
 -- the tally of a specification's own rows is that by all pairs
-own_tally : (g : Ground) (cs : List (List Edit)) (us : List Given) (q : Specification) (front own back : List Pair) → LackNumber q.number front → HaveNumber q.number own → LackNumber q.number back → AllSettled g cs us own → tally_of q (map (row_by g cs us) own) ≡ tally_by g.specs (model_after g cs) (front ++ (own ++ back)) q
+own_tally : (g : Ground) (cs : List (List Edit)) (us : List Given) (q : Specification) (front own back : List Pair) → LackNumber q.number front → HaveNumber q.number own → LackNumber q.number back → AllSettled g cs us own → tally_of q (map (row_by g cs us) own) ≡ tally_by g.schema g.specs (model_after g cs) (front ++ (own ++ back)) q
 own_tally g cs us q front own back a h b s =
     let m : List Instance = model_after g cs in
-    let same : row_verdicts (map (row_by g cs us) own) ≡ pair_verdicts g.specs m q.number (front ++ (own ++ back)) =
-    settled_verdicts g cs us own s ∙ sym (rw (filter_map-append (pair_verdict g.specs m q.number) front (own ++ back), filter_map-append (pair_verdict g.specs m q.number) own back, no_verdicts g.specs m q.number front a, no_verdicts g.specs m q.number back b, own_verdicts g.specs m q.number own h) (append-nil (verdicts_of g.specs m own))) in
-    elim q.for_model as (λ c. (if c then tally_from q.occurs (row_verdicts (map (row_by g cs us) own)) else skipped_tally q.occurs) ≡ (if c then tally_from q.occurs (pair_verdicts g.specs m q.number (front ++ (own ++ back))) else skipped_tally q.occurs)) [
+    let same : row_verdicts (map (row_by g cs us) own) ≡ pair_verdicts g.schema g.specs m q.number (front ++ (own ++ back)) =
+    settled_verdicts g cs us own s ∙ sym (rw (filter_map-append (pair_verdict g.schema g.specs m q.number) front (own ++ back), filter_map-append (pair_verdict g.schema g.specs m q.number) own back, no_verdicts g.schema g.specs m q.number front a, no_verdicts g.schema g.specs m q.number back b, own_verdicts g.schema g.specs m q.number own h) (append-nil (verdicts_of g.schema g.specs m own))) in
+    elim q.for_model as (λ c. (if c then tally_from q.occurs (row_verdicts (map (row_by g cs us) own)) else skipped_tally q.occurs) ≡ (if c then tally_from q.occurs (pair_verdicts g.schema g.specs m q.number (front ++ (own ++ back))) else skipped_tally q.occurs)) [
       | true ↦ ap (λ vs. tally_from q.occurs vs) same
       | false ↦ refl
     ]
@@ -109,7 +110,7 @@ few_of q m =
 
 -- Each specification in turn: its tally by all pairs, and few enough rows.
 record AreTold (g : Ground) (cs : List (List Edit)) (us : List Given) (qs : List Specification) (rows : List Row) : Type 0 where
-  told : tallies_of qs rows ≡ map (tally_by g.specs (model_after g cs) (pairs g.specs (model_after g cs))) qs
+  told : tallies_of qs rows ≡ map (tally_by g.schema g.specs (model_after g cs) (pairs g.specs (model_after g cs))) qs
   few : AreFew qs rows
 
 tell_all : (g : Ground) (cs : List (List Edit)) (us : List Given) (n : ℕ) (qs : List Specification) (front : List Pair) → pairs g.specs (model_after g cs) ≡ front ++ pairs qs (model_after g cs) → Each (λ (p : Pair). p.spec < n) front → NumberedFrom n qs → AllSettled g cs us (pairs qs (model_after g cs)) → length (model_after g cs) < 4294967296 → AreTold g cs us qs (map (row_by g cs us) (pairs qs (model_after g cs)))
@@ -127,7 +128,7 @@ tell_all g cs us n (q ∷ qs) front split below k s l =
     let split' : pairs g.specs m ≡ (front ++ pairs_of q m) ++ pairs qs m = split ∙ sym (append_assoc front (pairs_of q m) (pairs qs m)) in
     let below' : Each (λ (p : Pair). p.spec < n + 1) (front ++ pairs_of q m) = each_append (λ (p : Pair). p.spec < n + 1) front (pairs_of q m) (Each-weaker _ _ (λ (p : Pair) b. omega (arith, b)) front below) (each_of (λ s. s < n + 1) q m (omega (arith, k.0))) in
     let rest : AreTold g cs us qs (map row back) = tell_all g cs us (n + 1) qs (front ++ pairs_of q m) split' below' k.1 settled.1 l in
-    let head : tally_of q (map row own) ≡ tally_by g.specs m (pairs g.specs m) q = own_tally g cs us q front (pairs_of q m) (pairs qs m) before have lack settled.0 ∙ ap (λ (ps : List Pair). tally_by g.specs m ps q) (sym split) in
+    let head : tally_of q (map row own) ≡ tally_by g.schema g.specs m (pairs g.specs m) q = own_tally g cs us q front (pairs_of q m) (pairs qs m) before have lack settled.0 ∙ ap (λ (ps : List Pair). tally_by g.schema g.specs m ps q) (sym split) in
     let short : length (map row own) < 4294967296 = rw (length-map own row) (let f : length (pairs_of q m) ≤ length m = few_of q m in omega (arith, f, l)) in
     rw (map-append row own back)
     record {
@@ -139,6 +140,6 @@ pub few_rows : (g : Ground) (cs : List (List Edit)) (us : List Given) → Number
 unfolding board_by
 few_rows g cs us k s l = (tell_all g cs us 1 g.specs [] refl tt k s l).few
 
-pub told_rows : (g : Ground) (cs : List (List Edit)) (us : List Given) → NumberedFrom 1 g.specs → IsModel (model_after g cs) → AllSettled g cs us (pairs g.specs (model_after g cs)) → length (model_after g cs) < 4294967296 → tallies_of g.specs (board_by g cs us) ≡ scratch g.specs (model_after g cs)
+pub told_rows : (g : Ground) (cs : List (List Edit)) (us : List Given) → NumberedFrom 1 g.specs → IsModel (model_after g cs) → AllSettled g cs us (pairs g.specs (model_after g cs)) → length (model_after g cs) < 4294967296 → tallies_of g.specs (board_by g cs us) ≡ scratch g.schema g.specs (model_after g cs)
 unfolding board_by
-told_rows g cs us k h s l = (tell_all g cs us 1 g.specs [] refl tt k s l).told ∙ tallies_by_pairs g.specs (model_after g cs) k h
+told_rows g cs us k h s l = (tell_all g cs us 1 g.specs [] refl tt k s l).told ∙ tallies_by_pairs g.schema g.specs (model_after g cs) k h

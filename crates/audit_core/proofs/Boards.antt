@@ -39,7 +39,7 @@ unsettled_on_board g cs us = find-map (row_by g cs us) (λ r. r.pair) _ _ (λ p.
 -- Keeping what was found of a pair settles that pair and no other.
 
 same_rows : (g : Ground) (cs : List (List Edit)) (us : List Given) (c : Given) (q : Pair) → (same_pair c.pair q && stands_by g cs c) ≡ false → row_by g cs us q ≡ row_by g cs (c ∷ us) q
-same_rows g cs us c q e = let F : Bool → Type 0 = λ b. row_by g cs us q ≡ record { pair = q; kept = if (b || settled_by g cs us q) then Some (found g.specs (model_after g cs) q) else None } in
+same_rows g cs us c q e = let F : Bool → Type 0 = λ b. row_by g cs us q ≡ record { pair = q; kept = if (b || settled_by g cs us q) then Some (found g.schema g.specs (model_after g cs) q) else None } in
     let at : F false = refl in subst F (sym e) at
 
 apart_rows : (g : Ground) (cs : List (List Edit)) (us : List Given) (c : Given) (qs : List Pair) → list_any (same_pair c.pair) qs ≡ false → map (row_by g cs us) qs ≡ map (row_by g cs (c ∷ us)) qs
@@ -48,18 +48,18 @@ apart_rows g cs us c (q ∷ qs) e =
     let neither : (same_pair c.pair q ≡ false) × (list_any (same_pair c.pair) qs ≡ false) = or_parts (same_pair c.pair q) (list_any (same_pair c.pair) qs) e in
     rw (same_rows g cs us c q (rw neither.0), apart_rows g cs us c qs neither.1)
 
-settle_map : (g : Ground) (cs : List (List Edit)) (us : List Given) (c : Given) (qs : List Pair) → AreApart qs → stands_by g cs c ≡ true → settled_rows c.pair (found g.specs (model_after g cs) c.pair) (map (row_by g cs us) qs) ≡ map (row_by g cs (c ∷ us)) qs
+settle_map : (g : Ground) (cs : List (List Edit)) (us : List Given) (c : Given) (qs : List Pair) → AreApart qs → stands_by g cs c ≡ true → settled_rows c.pair (found g.schema g.specs (model_after g cs) c.pair) (map (row_by g cs us) qs) ≡ map (row_by g cs (c ∷ us)) qs
 settle_map g cs us c [] a s = refl
 settle_map g cs us c (q ∷ qs) a s =
-    let F : Bool → Type 0 = λ b. same_pair c.pair q ≡ b → (if b then (record { pair = q; kept = Some (found g.specs (model_after g cs) c.pair) } ∷ map (row_by g cs us) qs) else (row_by g cs us q ∷ settled_rows c.pair (found g.specs (model_after g cs) c.pair) (map (row_by g cs us) qs))) ≡ map (row_by g cs (c ∷ us)) (q ∷ qs) in
+    let F : Bool → Type 0 = λ b. same_pair c.pair q ≡ b → (if b then (record { pair = q; kept = Some (found g.schema g.specs (model_after g cs) c.pair) } ∷ map (row_by g cs us) qs) else (row_by g cs us q ∷ settled_rows c.pair (found g.schema g.specs (model_after g cs) c.pair) (map (row_by g cs us) qs))) ≡ map (row_by g cs (c ∷ us)) (q ∷ qs) in
     let at : F (same_pair c.pair q) = elim (same_pair c.pair q) as F [
       | true ↦ λ e. let same : c.pair ≡ q = same_pair-true c.pair q e in
-          rw (e, s, same) (ap (λ (rs : List Row). record { pair = q; kept = Some (found g.specs (model_after g cs) q) } ∷ rs) (apart_rows g cs us c qs (rw same a.0)))
+          rw (e, s, same) (ap (λ (rs : List Row). record { pair = q; kept = Some (found g.schema g.specs (model_after g cs) q) } ∷ rs) (apart_rows g cs us c qs (rw same a.0)))
       | false ↦ λ e. rw (same_rows g cs us c q (rw e), settle_map g cs us c qs a.1 s)
     ] in
     at refl
 
-pub settle_board : (g : Ground) (cs : List (List Edit)) (us : List Given) (c : Given) → AreApart (pairs g.specs (model_after g cs)) → stands_by g cs c ≡ true → settled_rows c.pair (found g.specs (model_after g cs) c.pair) (board_by g cs us) ≡ board_by g cs (c ∷ us)
+pub settle_board : (g : Ground) (cs : List (List Edit)) (us : List Given) (c : Given) → AreApart (pairs g.specs (model_after g cs)) → stands_by g cs c ≡ true → settled_rows c.pair (found g.schema g.specs (model_after g cs) c.pair) (board_by g cs us) ≡ board_by g cs (c ∷ us)
 unfolding board_by
 settle_board g cs us c a s = settle_map g cs us c _ a s
 

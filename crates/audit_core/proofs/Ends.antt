@@ -12,7 +12,7 @@ use Rattle.audit_model.specs.declared.step.Reply.{Reply}
 use Rattle.audit_model.specs.declared.step.Reply.TheVariants.{Began, Accepted, Refused, Claimed, Idle, Used, Stale, Back, Pending, Report}
 use Rattle.audit_model.specs.Pairs.{same_pair}
 use Rattle.audit_model.specs.History.{Ground, claim_numbered, without_claim, out, out_after, given, revision}
-use Rattle.audit_model.specs.Machine.{Legal, Answers, claimed, least_claimable}
+use Rattle.audit_model.specs.Machine.{Legal, Answers, least_claimable}
 use Rattle.audit_model.proofs.Tests.{Each, Each-filter, Each-weaker, filter-shorter}
 use Rattle.audit_model.proofs.Numbers.{out_numbers, claim_number}
 use Rattle.audit_core.specs.declared.board.Row.{Row}

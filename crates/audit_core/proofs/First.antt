@@ -1,5 +1,5 @@
 -- Rows in which nothing is kept, and the fields of a core without entries.
-use Rattle.std.proofs.Common.{◌≡◌, ℕ, suc, ◌+◌, ◌<◌, ◌≤◌, Bool, true, false, cond, if◌then◌else◌, nat_lt, List, [], ◌∷◌, ◌++◌, map, filter, length, take, get_or, refl, arith, ap, ◌∙◌}
+use Rattle.std.proofs.Common.{◌≡◌, ℕ, suc, ◌+◌, ◌<◌, ◌≤◌, Bool, true, false, cond, if◌then◌else◌, nat_lt, List, [], ◌∷◌, ◌++◌, map, filter, length, take, get_or, refl, arith, ap, sym, ◌∙◌}
 use Rattle.std.proofs.lemmas.List.{take_more, map-append}
 use Rattle.std.proofs.lemmas.List.Elements.{filter-append}
 use Rattle.ifc_base.specs.declared.value.Instance.{Instance}
@@ -11,6 +11,11 @@ use Rattle.audit_model.specs.History.{Ground}
 use Rattle.audit_core.specs.declared.board.Row.{Row}
 use Rattle.audit_core.specs.Rows.{board_by, empty_row}
 use Rattle.audit_core.specs.Kept.{IsKept}
+use Rattle.std.specs.FinMap.{FinMap}
+use Rattle.std.specs.Ordering.{nat_cmp}
+use Rattle.ifc_base.specs.declared.key.Key.{Key}
+use Rattle.inverse_index.specs.Log.{last_in}
+use Rattle.model_view.specs.Views.{SnapshotView, IsSnapshotOf}
 
 -- the rows of a specification that is for the model
 abbrev pub pair_rows : Specification → List Instance → List Row
@@ -21,10 +26,16 @@ one_more : (b : Bool) (q : Specification) (x : Instance) → map empty_row (map 
 one_more true q x = refl
 one_more false q x = refl
 
-pub rows_more : (q : Specification) (m : List Instance) (i : ℕ) (x : Instance) → i < length m → x ≡ get_or m i x → pair_rows q (take (i + 1) m) ≡ pair_rows q (take i m) ++ (if may_apply q x.entity then empty_row (record { spec = q.number; elem = x.id }) ∷ [] else [])
-rows_more q m i x l e =
-    rw (take_more m i x l, ← e, filter-append (λ (y : Instance). may_apply q y.entity) (take i m) (x ∷ []), map-append {B = Pair} (λ (y : Instance). record { spec = q.number; elem = y.id }) (filter (λ (y : Instance). may_apply q y.entity) (take i m)) (filter (λ (y : Instance). may_apply q y.entity) (x ∷ [])), map-append empty_row (map {B = Pair} (λ (y : Instance). record { spec = q.number; elem = y.id }) (filter (λ (y : Instance). may_apply q y.entity) (take i m))) (map {B = Pair} (λ (y : Instance). record { spec = q.number; elem = y.id }) (filter (λ (y : Instance). may_apply q y.entity) (x ∷ []))))
-    (ap (λ (rs : List Row). pair_rows q (take i m) ++ rs) (one_more (may_apply q x.entity) q x))
+-- a list with one more instance
+rows_plus : (q : Specification) (m : List Instance) (x : Instance) → pair_rows q (m ++ x ∷ []) ≡ pair_rows q m ++ (if may_apply q x.entity then empty_row (record { spec = q.number; elem = x.id }) ∷ [] else [])
+rows_plus q m x =
+    rw (filter-append (λ (y : Instance). may_apply q y.entity) m (x ∷ []), map-append {B = Pair} (λ (y : Instance). record { spec = q.number; elem = y.id }) (filter (λ (y : Instance). may_apply q y.entity) m) (filter (λ (y : Instance). may_apply q y.entity) (x ∷ [])), map-append empty_row (map {B = Pair} (λ (y : Instance). record { spec = q.number; elem = y.id }) (filter (λ (y : Instance). may_apply q y.entity) m)) (map {B = Pair} (λ (y : Instance). record { spec = q.number; elem = y.id }) (filter (λ (y : Instance). may_apply q y.entity) (x ∷ []))))
+    (ap (λ (rs : List Row). pair_rows q m ++ rs) (one_more (may_apply q x.entity) q x))
+
+-- the same of a list of which each is seen
+pub rows_next : {X : Type 0} (f : X → Instance) (q : Specification) (xs : List X) (i : ℕ) (x : X) → i < length xs → x ≡ get_or xs i x → pair_rows q (map f (take (i + 1) xs)) ≡ pair_rows q (map f (take i xs)) ++ (if may_apply q (f x).entity then empty_row (record { spec = q.number; elem = (f x).id }) ∷ [] else [])
+rows_next f q xs i x l e =
+    ap (λ zs. pair_rows q (map f zs)) (take_more xs i x l ∙ ap (λ y. take i xs ++ y ∷ []) (sym e)) ∙ ap (pair_rows q) (map-append f (take i xs) (x ∷ [])) ∙ rows_plus q (map f (take i xs)) (f x)
 
 pub rows_of : (q : Specification) (m : List Instance) → q.for_model ≡ true → pair_rows q m ≡ map empty_row (pairs_of q m)
 rows_of q m e = rw e
@@ -44,19 +55,19 @@ empty_board : (g : Ground) → map empty_row (pairs g.specs g.first) ≡ board_b
 unfolding board_by
 empty_board g = refl
 
-pub kept_first : (g : Ground) (room : ℕ) → NumberedFrom 1 g.specs → IsModel g.first → length g.first ≤ g.limits.instances → IsKept g [] (record { model = g.first; revision = 0 }) (map empty_row (pairs g.specs g.first)) 0 [] [] 0 room
-kept_first g room n m l =
+pub kept_first : (g : Ground) (room : ℕ) (v : SnapshotView) (log : FinMap nat_cmp ℕ) → NumberedFrom 1 g.specs → IsModel g.first → length g.first ≤ g.limits.instances → IsSnapshotOf g.schema g.first 0 v → ((k : Key) → last_in log k ≡ 0) → IsKept g [] v (map empty_row (pairs g.specs g.first)) 0 [] log 0 room
+kept_first g room v log n m l now none =
     record {
       legal = tt;
       numbered = n;
       ascending = m;
       size = l;
-      model = refl;
+      now = now;
       board = empty_board g;
       within = omega arith;
       none_before = refl;
       claims = refl;
-      changes = λ k. refl;
+      changes = none;
       number_is = refl;
       numbers = omega arith;
       fits = omega arith;

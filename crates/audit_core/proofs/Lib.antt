@@ -1,7 +1,6 @@
 pub mod Lists
 pub mod Order
 pub mod First
-pub mod Logs
 pub mod TallyLemmas
 pub mod Ends
 pub mod Boards
@@ -12,4 +11,3 @@ pub mod CommitLaws
 pub mod JudgeLaws
 pub mod BoardTallies
 pub mod Passing
-pub mod Least

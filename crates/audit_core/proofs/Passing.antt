@@ -1,16 +1,14 @@
 -- A call that adds no entry, and then another.
-use Rattle.std.proofs.Common.{◌≤◌, ℕ, ◌∙◌, Result, Ok, Err, IfErr, OnOk, le_trans}
+use Rattle.std.proofs.Common.{ℕ, ◌∙◌, Result, Ok, Err, IfErr, OnOk, le_trans}
 use Rattle.audit_model.specs.declared.step.StepRec.{StepRec}
 use Rattle.model_view.specs.Views.{DraftView}
 use Rattle.model_view.specs.declared.answers.Halt.{Halt}
 use Rattle.model_view.specs.declared.answers.Halt.TheVariants as halt
 use Rattle.model_view.specs.declared.answers.NotPrepared.{NotPrepared}
 use Rattle.model_view.specs.declared.answers.NotPrepared.TheVariants.{Refused, Full, Memory}
-use Rattle.audit_core.specs.Changes.{has_place}
 use Rattle.audit_core.specs.Cores.{CoreView}
 use Rattle.audit_core.specs.Commits.{IsNotPrepared, PreparedStays}
 use Rattle.audit_core.specs.Steps.{Adds, IsHalted, Unchanged}
-use Rattle.audit_core.proofs.Logs.{all_kept}
 
 adds_after : {a b c : CoreView} {e : StepRec} → Unchanged a b → Adds b c e → Adds a c e
 adds_after {a = a} {b = b} {c = c} {e = e} u s = record {
@@ -24,7 +22,6 @@ unchanged_after {a = a} {b = b} {c = c} u s = record {
   history = s.history ∙ u.history;
   ground = s.ground ∙ u.ground;
   spare = le_trans u.spare s.spare;
-  places = λ k h. s.places k (u.places k h);
 }
 
 halted_after : {a b : CoreView} (c : CoreView) (n : ℕ) (why : Halt) → Unchanged a b → IsHalted b c n why → IsHalted a c n why
@@ -54,5 +51,5 @@ prepared_stays old new p r u = record {
   base_past = rw u.history r.base_past;
   not_full = rw (u.ground, u.history) r.not_full;
   room = le_trans r.room u.spare;
-  places = all_kept (has_place old.places) (has_place new.places) u.places p.keys r.places;
+  log_is = rw (u.ground, u.history) r.log_is;
 }

@@ -11,7 +11,7 @@ use Rattle.audit_model.specs.History.{Ground, current, out, commits, changed_sin
 use Rattle.audit_model.specs.Machine.{Legal, least_changed, deliver_reply}
 use Rattle.audit_model.proofs.Claims.{IsSound, sound_out}
 use Rattle.audit_model.proofs.Commits.{stands_found}
-use Rattle.audit_model.proofs.Frame.{Stays}
+use Rattle.audit_model.specs.FacetLaws.{Stays}
 use Rattle.audit_model.proofs.Tests.{Each-found}
 use Rattle.model_view.specs.Views.{FindingView}
 use Rattle.audit_core.specs.Cores.{CoreView}
@@ -28,7 +28,7 @@ none_all {X} t (x ∷ xs) e =
 
 -- a claim of which nothing that it needs was changed stands
 pub stands_when : (g : Ground) (h : List StepRec) (c : Given) → least_changed g h c ≡ None → stands_by g (commits h) c ≡ true
-stands_when g h c e = none_all (changed_since g h c.revision) (need g.specs c.pair (model_at g h c.revision)) e
+stands_when g h c e = none_all (changed_since g h c.revision) (need g.schema g.specs c.pair (model_at g h c.revision)) e
 
 -- a search of the finding's needs is one of the needs of its claim
 pub changed_of : {core : CoreView} {actor : ℕ} {f : FindingView} → IsTrueFinding core actor f → least_changed core.ground core.history (given_of actor f.claim) ≡ find (changed_since core.ground core.history f.claim.snapshot.revision) f.needs
@@ -37,10 +37,10 @@ changed_of {core = core} {f = f} t = ap (λ (ks : List Key). find (changed_since
 pub stale_of : {core : CoreView} {actor : ℕ} {f : FindingView} (k : Key) → IsTrueFinding core actor f → find (changed_since core.ground core.history f.claim.snapshot.revision) f.needs ≡ Some k → Stale k (last_change core.ground core.history k) ≡ deliver_reply core.ground core.history (given_of actor f.claim)
 stale_of k t e = rw (changed_of t ∙ e)
 
-pub found_now : {core : CoreView} {actor : ℕ} {f : FindingView} → Legal core.ground core.history → IsTrueFinding core actor f → least_changed core.ground core.history (given_of actor f.claim) ≡ None → record { verdict = f.verdict; needs = f.needs } ≡ found core.ground.specs (current core.ground core.history) f.claim.pair
+pub found_now : {core : CoreView} {actor : ℕ} {f : FindingView} → Legal core.ground core.history → IsTrueFinding core actor f → least_changed core.ground core.history (given_of actor f.claim) ≡ None → record { verdict = f.verdict; needs = f.needs } ≡ found core.ground.schema core.ground.specs (current core.ground core.history) f.claim.pair
 found_now {core = core} {actor = actor} {f = f} l t none =
     let sound : IsSound core.ground (commits core.history) (given_of actor f.claim) = Each-found (IsSound core.ground (commits core.history)) (λ c. c.number == f.claim.number) (out core.history) (given_of actor f.claim) (sound_out core.ground core.history l) t.is_out in
-    let stays : Stays core.ground.specs f.claim.pair (model_of core.ground (commits core.history) f.claim.snapshot.revision) (model_after core.ground (commits core.history)) = stands_found core.ground (commits core.history) (given_of actor f.claim) sound.early (stands_when core.ground core.history (given_of actor f.claim) none) in
-    let v : f.verdict ≡ verdict core.ground.specs f.claim.pair (current core.ground core.history) = t.verdict_is ∙ ap (λ m. verdict core.ground.specs f.claim.pair m) t.snapshot_is ∙ sym stays.verdict_stays in
-    let n : f.needs ≡ need core.ground.specs f.claim.pair (current core.ground core.history) = t.needs_are ∙ ap (λ m. need core.ground.specs f.claim.pair m) t.snapshot_is ∙ sym stays.need_stays in
+    let stays : Stays core.ground.schema core.ground.specs f.claim.pair (model_of core.ground (commits core.history) f.claim.snapshot.revision) (model_after core.ground (commits core.history)) = stands_found core.ground (commits core.history) (given_of actor f.claim) sound.early (stands_when core.ground core.history (given_of actor f.claim) none) in
+    let v : f.verdict ≡ verdict core.ground.schema core.ground.specs f.claim.pair (current core.ground core.history) = t.verdict_is ∙ ap (λ m. verdict core.ground.schema core.ground.specs f.claim.pair m) t.snapshot_is ∙ sym stays.verdict_stays in
+    let n : f.needs ≡ need core.ground.schema core.ground.specs f.claim.pair (current core.ground core.history) = t.needs_are ∙ ap (λ m. need core.ground.schema core.ground.specs f.claim.pair m) t.snapshot_is ∙ sym stays.need_stays in
     λ i. record { verdict = v i; needs = n i }

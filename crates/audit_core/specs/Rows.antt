@@ -4,6 +4,7 @@ use Rattle.std.specs.List.{list_any}
 use Rattle.std.specs.Option.{option_map}
 use Rattle.ifc_base.specs.declared.value.Instance.{Instance}
 use Rattle.ifc_base.specs.declared.key.Key.{Key}
+use Rattle.schema_table.specs.Schema.{Schema}
 use Rattle.audit_model.specs.declared.commit.Edit.{Edit}
 use Rattle.audit_model.specs.declared.specification.Specification.{Specification}
 use Rattle.audit_model.specs.declared.verdict.Pair.{Pair}
@@ -19,12 +20,12 @@ use Rattle.audit_core.specs.declared.board.Kept.{Kept}
 -- By the history.
 
 -- a pair's verdict and needs in a model
-abbrev pub found : List Specification → List Instance → Pair → Kept
-found specs m p = record { verdict = verdict specs p m; needs = need specs p m }
+abbrev pub found : Schema → List Specification → List Instance → Pair → Kept
+found s specs m p = record { verdict = verdict s specs p m; needs = need s specs p m }
 
 -- the row of a pair after these commits and used claims
 abbrev pub row_by : Ground → List (List Edit) → List Given → Pair → Row
-row_by g cs us p = record { pair = p; kept = if settled_by g cs us p then Some (found g.specs (model_after g cs) p) else None }
+row_by g cs us p = record { pair = p; kept = if settled_by g cs us p then Some (found g.schema g.specs (model_after g cs) p) else None }
 
 -- the rows of the pairs of the current model
 unfoldable pub board_by : Ground → List (List Edit) → List Given → List Row

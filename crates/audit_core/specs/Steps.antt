@@ -1,6 +1,5 @@
 -- What a call of the core does to its history, and what its answers say.
 use Rattle.std.specs.Prelude.{◌≡◌, ◌≤◌, Bool, true, false, ℕ, ◌∷◌, None, Some}
-use Rattle.ifc_base.specs.declared.key.Key.{Key}
 use Rattle.audit_model.specs.declared.verdict.Pair.{Pair}
 use Rattle.audit_model.specs.declared.step.Given.{Given}
 use Rattle.audit_model.specs.declared.step.StepRec.{StepRec}
@@ -21,8 +20,7 @@ use Rattle.model_view.specs.declared.answers.Delivered.TheVariants as delivered
 use Rattle.model_view.specs.declared.answers.Published.{Published}
 use Rattle.model_view.specs.declared.answers.Published.TheVariants as published
 use Rattle.audit_core.specs.declared.board.Kept.{Kept}
-use Rattle.audit_core.specs.Changes.{has_place}
-use Rattle.audit_core.specs.Cores.{CoreView, now_of}
+use Rattle.audit_core.specs.Cores.{CoreView, IsNow}
 use Rattle.audit_core.specs.Rows.{found}
 
 -- the call adds this entry, which may follow, and nothing else
@@ -31,13 +29,11 @@ pub record Adds (old new : CoreView) (e : StepRec) : Type 0 where
   pub history : new.history ≡ e ∷ old.history
   pub ground : new.ground ≡ old.ground
 
--- The call adds no entry, and leaves the room that is kept for one: the journal has no less of it, and each key that had a place in the
--- log of changes has one still.
+-- The call adds no entry, and leaves the room that is kept for one: the journal has no less of it.
 pub record Unchanged (old new : CoreView) : Type 0 where
   pub history : new.history ≡ old.history
   pub ground : new.ground ≡ old.ground
   pub spare : old.spare ≤ new.spare
-  pub places : (k : Key) → has_place old.places k ≡ true → has_place new.places k ≡ true
 
 -- Why a call added no entry: there is no room for n more, or want of memory.
 abbrev pub IsHalted : CoreView → CoreView → ℕ → Halt → Type 0
@@ -72,7 +68,7 @@ claim_told claimed.Idle = reply.Idle
 
 -- the claim is of the model now, and out afterwards
 pub record IsGiven (old new : CoreView) (actor : ℕ) (claim : ClaimView) : Type 0 where
-  pub snapshot : claim.snapshot ≡ now_of old
+  pub snapshot : IsNow old.ground old.history claim.snapshot
   pub is_out : IsOut new actor claim
 
 abbrev pub IfGiven : CoreView → CoreView → ℕ → Claimed → Type 0
@@ -91,8 +87,8 @@ delivery_told (delivered.Stale key revision) = reply.Stale key revision
 pub record IsTrueFinding (core : CoreView) (actor : ℕ) (finding : FindingView) : Type 0 where
   pub is_out : IsOut core actor finding.claim
   pub snapshot_is : finding.claim.snapshot.model ≡ model_at core.ground core.history finding.claim.snapshot.revision
-  pub verdict_is : finding.verdict ≡ verdict core.ground.specs finding.claim.pair finding.claim.snapshot.model
-  pub needs_are : finding.needs ≡ need core.ground.specs finding.claim.pair finding.claim.snapshot.model
+  pub verdict_is : finding.verdict ≡ verdict core.ground.schema core.ground.specs finding.claim.pair finding.claim.snapshot.model
+  pub needs_are : finding.needs ≡ need core.ground.schema core.ground.specs finding.claim.pair finding.claim.snapshot.model
 
 -- A claim of this number and pair is out and given to the actor, nothing that it needs was changed since, and this is what is found
 -- of the pair now.
@@ -101,7 +97,7 @@ pub record IsUse (core : CoreView) (actor number : ℕ) (pair : Pair) (kept : Ke
   pub held : Holds core.history actor number claim
   pub same_pair : claim.pair ≡ pair
   pub unchanged : least_changed core.ground core.history claim ≡ None
-  pub now : kept ≡ found core.ground.specs (current core.ground core.history) pair
+  pub now : kept ≡ found core.ground.schema core.ground.specs (current core.ground core.history) pair
 
 -- Reports.
 
@@ -112,5 +108,5 @@ publish_told (published.Pending pair) = reply.Pending pair
 
 -- a report is, byte for byte, the audit from scratch of the model of the revision that it names
 abbrev pub IsAudit : CoreView → Published → Type 0
-IsAudit core (published.Report revision text) = text ≡ audit_text core.ground.specs (model_at core.ground core.history revision) revision
+IsAudit core (published.Report revision text) = text ≡ audit_text core.ground.schema core.ground.specs (model_at core.ground core.history revision) revision
 IsAudit core (published.Pending pair) = Unit {0}

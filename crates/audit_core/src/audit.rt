@@ -1,10 +1,12 @@
 ghost use Rattle.std.specs.Prelude.{◌≡◌, ◌≤◌, ◌<◌, ◌^◌, false, None, Some, [], length, reverse, find, IfOk, IfErr, OnOk};
 ghost use Rattle.audit_model.specs.Models.{HasDistinctIds, IsModel, model_of_file};
-ghost use Rattle.audit_model.specs.Pairs.{NumberedFrom};
+ghost use Rattle.audit_model.specs.Specifications.{AreBuilt, AreSpecifications};
 ghost use Rattle.audit_model.specs.Scratch.{scratch};
 ghost use Rattle.audit_model.specs.History.{changed_since, current, last_change};
 ghost use Rattle.audit_model.specs.Machine.{is_full, least_claimable, least_unsettled, Legal, MayFollow, pairs_now};
-ghost use Rattle.audit_core.specs.Cores.{now_of};
+ghost use Rattle.ifc_base.specs.Refusals.{OnFault};
+ghost use Rattle.audit_core.specs.Cores.{IsNow};
+ghost use Rattle.audit_core.specs.Fitting.{model_fault};
 ghost use Rattle.audit_core.specs.Steps.{claim_told, delivery_told, publish_told, tells_full};
 ghost use Rattle.audit_core.specs.Steps.{Adds, IfGiven, IsAudit, IsClaimOf, IsHalted, IsOut, IsTrueFinding, IsUse, Unchanged};
 
@@ -14,21 +16,25 @@ use crate::board::{
     Kept, Row, back_to, empty_rows, first_unsettled, next_claimable, pair_at, place_of, settle,
 };
 use crate::carry::first_changed;
-use crate::changes::ChangeLog;
 use crate::claims::take_back;
+use crate::fits::{ModelFault, is_ifc4, misfit_in};
 use crate::journal::CoreJournal;
 use crate::tallies::tally_all;
 use audit_model::{Call, Given, Limits, Pair, Reply, Specification, StepRec, Tally};
-use ifc_base::{Instances, Key, Memory};
+use ifc_base::{Key, Memory, Refusal};
+use inverse_index::ChangeLog;
 use model_view::{Claim, Claimed, Delivered, Finding, Halt, Published, Snapshot};
+use p21_read::P21File;
 use report_text::render_report;
+use schema_table::SchemaTable;
 use std::alloc::Global;
 use std::marker::Model;
 
 /// One model in numbered revisions, with the journal of all that was asked of it. Contracts see what
-/// stays the same - the specifications, the model of the file, the limits - and the history, the newest
+/// stays the same - the schema, the specifications, the model of the file, the limits - and the history, the newest
 /// entry first. A core isn't dropped: it ends by `into_journal`.
 pub struct Core<'a> {
+    schema: &'a SchemaTable,
     specs: &'a [Specification],
     limits: Limits,
     first: Snapshot,
@@ -45,48 +51,61 @@ impl<'a> Model for Core<'a> {
     ghost use Rattle.std.specs.Prelude.{◌+◌, ◌-◌, reverse, length, vec_capacity};
     ghost use Rattle.std.specs.Coded.{codes};
     ghost use Rattle.ifc_base.specs.contracts.value.Value as value;
+    ghost use Rattle.restrictions.specs.contracts.condition.Condition as condition;
     ghost use Rattle.audit_core.specs.Cores.{CoreView};
     ghost use Rattle.audit_core.specs.Kept.{IsKept};
 
     ghost Value = { CoreView };
 
-    ghost coded = { Prim.hlevel (codes, value.the_row.coded) };
+    ghost coded = { Prim.hlevel (codes, value.the_row.coded, condition.the_row.coded) };
 
     ghost view = { λ core. record {
-      ground = record { specs = core.specs.now; first = core.first.model; limits = core.limits };
+      ground = record { schema = core.schema.now; specs = core.specs.now; first = core.first.model; limits = core.limits };
       history = reverse core.journal.items;
       spare = vec_capacity core.journal - (length core.journal.items + length core.claims.items);
-      places = core.log;
     } };
 
-    ghost invariant = { λ core. IsKept (record { specs = core.specs.now; first = core.first.model; limits = core.limits })
+    ghost invariant = { λ core. IsKept (record { schema = core.schema.now; specs = core.specs.now; first = core.first.model; limits = core.limits })
         (reverse core.journal.items) core.current core.board.items core.passed core.claims.items core.log core.number
         (vec_capacity core.journal) };
 }
 
 impl<'a> Core<'a> {
-    /// A core over the model of a file with these instances, without entries. The ids of the instances
-    /// have to be distinct, there may be at most `limits.instances` of them, and the specifications have
-    /// to be numbered by their places from 1. `O(n log n + s * n)` for `n` instances and `s`
-    /// specifications.
+    /// A core over the model of this file, without entries. It refuses a file of another schema than
+    /// `IFC4`; else, if an instance doesn't fit the schema, it tells the least id of such a one, and why.
+    /// The ids of the instances have to be distinct, there may be at most `limits.instances` of them, and
+    /// of the specifications each facet has to be of a kind whose evaluation is built. Besides, it may
+    /// refuse for want of memory.
+    /// `O(n log n + s * n)` for `n` instances and `s` specifications.
     pub fn new(
         alloc: Global,
+        schema: &'a SchemaTable,
         specs: &'a [Specification],
-        instances: Instances,
+        file: P21File,
         limits: Limits,
-    ) -> Result<Core<'a>, Memory>
-        requires distinct { HasDistinctIds instances }
-        requires few { length instances ≤ limits.instances }
-        requires numbered { NumberedFrom 1 specs.now }
+    ) -> Result<Core<'a>, Refusal<ModelFault>>
+        requires distinct { HasDistinctIds file.instances }
+        requires few { length file.instances ≤ limits.instances }
+        requires specifications { AreSpecifications specs.now }
+        requires built { AreBuilt specs.now }
         ensures ground { IfOk result
-            (λ core. core.ground ≡ record { specs = specs.now; first = model_of_file instances; limits = limits }) }
+            (λ core. core.ground ≡ record { schema = schema.now; specs = specs.now; first = model_of_file file.instances; limits = limits }) }
         ensures history { IfOk result (λ core. core.history ≡ []) }
         ensures ascending { IfOk result (λ core. IsModel core.ground.first) }
+        ensures fits { OnOk result (model_fault schema.now file ≡ None) }
+        ensures fault { OnFault result (λ fault. model_fault schema.now file ≡ Some fault) }
     {
-        let first = Snapshot::first(alloc, instances)?;
+        if !is_ifc4(&file.schema_id) {
+            return Err(Refusal::Fault(ModelFault::OtherSchema));
+        }
+        let first = Snapshot::first(alloc, schema, file.instances)?;
         let current = first.share()?;
-        let board = empty_rows(alloc, specs, current.instances())?;
+        if let Some(fault) = misfit_in(alloc, schema, &current)? {
+            return Err(Refusal::Fault(fault));
+        }
+        let board = empty_rows(alloc, specs, &current)?;
         Ok(Core {
+            schema,
             specs,
             limits,
             first,
@@ -94,7 +113,7 @@ impl<'a> Core<'a> {
             board,
             passed: 0,
             claims: Vec::new(alloc),
-            log: ChangeLog::new(alloc),
+            log: ChangeLog::new(),
             number: 0,
             journal: Vec::new(alloc),
         })
@@ -122,6 +141,7 @@ impl<'a> Core<'a> {
         ensures legal { Legal self.entry.ground self.entry.history }
     {
         let Core {
+            schema: _,
             specs: _,
             limits: _,
             first: _first,
@@ -159,7 +179,7 @@ impl<'a> Core<'a> {
     pub fn begin(&mut self, actor: u32) -> Result<Snapshot, Halt>
         ensures ok { IfOk result (λ base. Adds self.old self.new
             (record { actor = actor; call = Call.Begin; reply = Reply.Began base.revision })) }
-        ensures snapshot { IfOk result (λ base. base ≡ now_of self.old) }
+        ensures snapshot { IfOk result (λ base. IsNow self.old.ground self.old.history base) }
         ensures not_full { OnOk result (is_full self.old.ground self.old.history 1 ≡ false) }
         ensures halted { IfErr result (λ why. IsHalted self.old self.new 1 why) }
         ensures full { IfErr result (λ why. is_full self.old.ground self.old.history 1 ≡ tells_full why) }
@@ -370,7 +390,7 @@ impl<'a> Core<'a> {
     /// The tallies, where every pair is settled.
     fn tallies(&self, alloc: Global) -> Result<Vec<Tally>, Memory>
         requires { least_unsettled self.now.ground self.now.history ≡ None }
-        ensures { IfOk result (λ tallies. tallies.items ≡ scratch self.now.ground.specs
+        ensures { IfOk result (λ tallies. tallies.items ≡ scratch self.now.ground.schema self.now.ground.specs
             (current self.now.ground self.now.history)) }
     {
         let _most = self.limits.instances;

@@ -1,10 +1,10 @@
 ghost use Rattle.std.specs.Prelude.{◌≡◌, find, nat_lt};
-ghost use Rattle.audit_core.specs.Changes.{last_in};
+ghost use Rattle.inverse_index.specs.Log.{last_in};
 ghost use Rattle.audit_core.specs.Rows.{carried, carried_row, AreAscending};
 
 use crate::board::{Row, settle};
-use crate::changes::ChangeLog;
 use ifc_base::Key;
+use inverse_index::ChangeLog;
 
 /// The first of these keys that was changed after this revision. `O(log n)` for each key.
 pub fn first_changed(log: &ChangeLog, needs: &[Key], since: u32) -> Option<Key>

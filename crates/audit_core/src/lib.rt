@@ -7,18 +7,17 @@
 mod audit;
 mod board;
 mod carry;
-mod changes;
 mod claims;
-mod dangling;
+mod fits;
 mod journal;
 mod judge;
 mod laws;
 mod plan;
 mod prepared;
-mod presence;
 mod tallies;
 
 pub use audit::Core;
+pub use fits::ModelFault;
 pub use journal::CoreJournal;
 pub use laws::prepared_stays;
 pub use prepared::Prepared;

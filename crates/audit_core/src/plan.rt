@@ -1,15 +1,15 @@
 ghost use Rattle.std.specs.Prelude.{◌≡◌, IfOk};
-ghost use Rattle.audit_model.specs.Models.{IsModel};
-ghost use Rattle.audit_core.specs.Changes.{last_in};
+ghost use Rattle.inverse_index.specs.Index.{Indexes};
+ghost use Rattle.inverse_index.specs.Log.{last_in};
 ghost use Rattle.audit_core.specs.Commits.{IsPlanned};
 
 use crate::board::{Row, empty_rows};
-use crate::changes::ChangeLog;
-use crate::dangling::dangling;
-use crate::judge::judge_edits;
+use crate::judge::{Judged, judge_edits};
 use audit_model::{CommitRefusal, Edits, Limits, Specification};
 use ifc_base::{Keys, Memory};
-use model_view::Snapshot;
+use inverse_index::ChangeLog;
+use model_view::{Snapshot, dangling};
+use schema_table::SchemaTable;
 use std::alloc::Global;
 
 /// What a commit would make: the next snapshot, the keys that it changes and empty rows for its pairs;
@@ -20,10 +20,11 @@ pub enum Planned {
     Refused(CommitRefusal),
 }
 
-/// Judges the commit of these edits, drafted on the revision `base`, and makes the next snapshot.
-/// `O(s * n)` for `s` specifications and `n` instances, and `O(r log n)` for their `r` references.
+/// Judges the commit of these edits, drafted on the revision `base`, and makes the next snapshot. What
+/// the edits cost twice, and `O(s * n)` for `s` specifications and `n` instances.
 pub fn plan_commit(
     alloc: Global,
+    schema: &SchemaTable,
     specs: &[Specification],
     limits: Limits,
     log: &ChangeLog,
@@ -31,19 +32,20 @@ pub fn plan_commit(
     now: &Snapshot,
     edits: &Edits,
 ) -> Result<Planned, Memory>
-    requires { IsModel now.now.model }
-    ensures { IfOk result (λ plan. IsPlanned specs.now limits (last_in log.now) base now.now edits.now plan) }
+    requires index { Indexes schema.now now.now.model now.now.lists }
+    ensures { IfOk result (λ plan. IsPlanned schema.now specs.now limits (last_in log.now) base now.now.revision now.now.model edits.now plan) }
 {
     if now.revision() >= limits.revisions {
         return Ok(Planned::Refused(CommitRefusal::RevisionsFull));
     }
-    if let Some(refusal) = judge_edits(alloc, limits, log, base, now, edits.as_slice())? {
+    let edited = match judge_edits(alloc, schema, limits, log, base, now, edits.as_slice())? {
+        Judged::Refused(refusal) => return Ok(Planned::Refused(refusal)),
+        Judged::Edited(edited) => edited,
+    };
+    if let Some(refusal) = dangling(alloc, now, &edited, edits.as_slice())? {
         return Ok(Planned::Refused(refusal));
     }
-    let (next, keys) = now.with_edits(alloc, edits)?;
-    if let Some(refusal) = dangling(alloc, now, &next)? {
-        return Ok(Planned::Refused(refusal));
-    }
-    let rows = empty_rows(alloc, specs, next.instances())?;
+    let (next, keys) = now.with_edits(alloc, schema, edits)?;
+    let rows = empty_rows(alloc, specs, &next)?;
     Ok(Planned::Next(next, keys, rows))
 }

@@ -1,6 +1,7 @@
 use crate::board::Row;
 use audit_model::Edits;
 use ifc_base::Keys;
+use inverse_index::ChangeLog;
 use model_view::Snapshot;
 use std::marker::Model;
 
@@ -12,17 +13,20 @@ pub struct Prepared {
     pub(crate) edits: Edits,
     pub(crate) next: Snapshot,
     pub(crate) keys: Keys,
+    pub(crate) log: ChangeLog,
     pub(crate) rows: Vec<Row>,
 }
 
 impl Model for Prepared {
-    ghost use Rattle.std.specs.Coded.{codes};
+    ghost use Rattle.std.specs.Coded.{codes, coded_ℕ, coded_list};
+    ghost use Rattle.std.specs.FinMap as map;
+    ghost use Rattle.std.specs.Ordering.{nat_cmp};
     ghost use Rattle.ifc_base.specs.contracts.value.Value as value;
     ghost use Rattle.audit_core.specs.Commits.{PreparedView};
 
     ghost Value = { PreparedView };
 
-    ghost coded = { Prim.hlevel (codes, value.the_row.coded) };
+    ghost coded = { Prim.hlevel (codes, value.the_row.coded, map.code {R = nat_cmp} coded_ℕ (coded_list coded_ℕ), map.code {R = nat_cmp} coded_ℕ coded_ℕ) };
 
     ghost view = { λ prepared. record {
       actor = prepared.actor;
@@ -30,6 +34,7 @@ impl Model for Prepared {
       edits = prepared.edits;
       next = prepared.next;
       keys = prepared.keys;
+      log = prepared.log;
       rows = prepared.rows.items;
     } };
 }

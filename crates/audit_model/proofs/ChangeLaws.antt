@@ -10,16 +10,16 @@ use Rattle.audit_model.specs.Laws.{LastChangeIsLast}
 use Rattle.audit_model.proofs.Commits.{model_of-last, model_of-older, model_of-newest}
 
 abbrev changed_by : Ground → List (List Edit) → ℕ → Key → Bool
-changed_by g cs r k = changes (model_of g cs r) (model_of g cs (r + 1)) k
+changed_by g cs r k = changes g.schema (model_of g cs r) (model_of g cs (r + 1)) k
 
 changed_by-older : (g : Ground) (edits : List Edit) (cs : List (List Edit)) (r : ℕ) (k : Key) → r < length cs → changed_by g (edits ∷ cs) r k ≡ changed_by g cs r k
-changed_by-older g edits cs r k l = λ i. changes (model_of-older g edits cs r (omega (arith, l)) i) (model_of-older g edits cs (r + 1) (omega (arith, l)) i) k
+changed_by-older g edits cs r k l = λ i. changes g.schema (model_of-older g edits cs r (omega (arith, l)) i) (model_of-older g edits cs (r + 1) (omega (arith, l)) i) k
 
-changed_by-newest : (g : Ground) (edits : List Edit) (cs : List (List Edit)) (k : Key) → changed_by g (edits ∷ cs) (length cs) k ≡ changes (model_after g cs) (apply (model_after g cs) edits) k
+changed_by-newest : (g : Ground) (edits : List Edit) (cs : List (List Edit)) (k : Key) → changed_by g (edits ∷ cs) (length cs) k ≡ changes g.schema (model_after g cs) (apply g.schema (model_after g cs) edits) k
 changed_by-newest g edits cs k =
     let before : model_of g (edits ∷ cs) (length cs) ≡ model_after g cs = model_of-older g edits cs (length cs) (omega arith) ∙ model_of-last g cs in
-    let after : model_of g (edits ∷ cs) (length cs + 1) ≡ apply (model_after g cs) edits = model_of-newest g edits cs (length cs + 1) (omega arith) in
-    λ i. changes (before i) (after i) k
+    let after : model_of g (edits ∷ cs) (length cs + 1) ≡ apply g.schema (model_after g cs) edits = model_of-newest g edits cs (length cs + 1) (omega arith) in
+    λ i. changes g.schema (before i) (after i) k
 
 -- the same of a list of commits
 record IsLast (g : Ground) (cs : List (List Edit)) (k : Key) (last : ℕ) : Type 0 where
@@ -27,7 +27,7 @@ record IsLast (g : Ground) (cs : List (List Edit)) (k : Key) (last : ℕ) : Type
   pub changed_it : (r : ℕ) → last ≡ r + 1 → changed_by g cs r k ≡ true
   pub none_later : (r : ℕ) → last ≤ r → r < length cs → changed_by g cs r k ≡ false
 
-last_changed : (g : Ground) (edits : List Edit) (cs : List (List Edit)) (k : Key) → changes (model_after g cs) (apply (model_after g cs) edits) k ≡ true → IsLast g (edits ∷ cs) k (length cs + 1)
+last_changed : (g : Ground) (edits : List Edit) (cs : List (List Edit)) (k : Key) → changes g.schema (model_after g cs) (apply g.schema (model_after g cs) edits) k ≡ true → IsLast g (edits ∷ cs) k (length cs + 1)
 last_changed g edits cs k e =
     record {
       so_far = omega arith;
@@ -35,7 +35,7 @@ last_changed g edits cs k e =
       none_later = λ r le lt. absurd (omega (arith, le, lt));
     }
 
-last_kept : (g : Ground) (edits : List Edit) (cs : List (List Edit)) (k : Key) (last : ℕ) → changes (model_after g cs) (apply (model_after g cs) edits) k ≡ false → IsLast g cs k last → IsLast g (edits ∷ cs) k last
+last_kept : (g : Ground) (edits : List Edit) (cs : List (List Edit)) (k : Key) (last : ℕ) → changes g.schema (model_after g cs) (apply g.schema (model_after g cs) edits) k ≡ false → IsLast g cs k last → IsLast g (edits ∷ cs) k last
 last_kept g edits cs k last e l =
     record {
       so_far = let le : last ≤ length cs = l.so_far in omega (arith, le);
@@ -49,8 +49,8 @@ last_kept g edits cs k last e l =
 last_of_last : (g : Ground) (cs : List (List Edit)) (k : Key) → IsLast g cs k (last_of g cs k)
 last_of_last g [] k = record { so_far = omega arith; changed_it = λ r is. absurd (omega (arith, is)); none_later = λ r le lt. absurd (omega (arith, lt)) }
 last_of_last g (edits ∷ cs) k =
-    let F : Bool → Type 0 = λ b. changes (model_after g cs) (apply (model_after g cs) edits) k ≡ b → IsLast g (edits ∷ cs) k (if b then length cs + 1 else last_of g cs k) in
-    let at : F (changes (model_after g cs) (apply (model_after g cs) edits) k) = elim (changes (model_after g cs) (apply (model_after g cs) edits) k) as F [
+    let F : Bool → Type 0 = λ b. changes g.schema (model_after g cs) (apply g.schema (model_after g cs) edits) k ≡ b → IsLast g (edits ∷ cs) k (if b then length cs + 1 else last_of g cs k) in
+    let at : F (changes g.schema (model_after g cs) (apply g.schema (model_after g cs) edits) k) = elim (changes g.schema (model_after g cs) (apply g.schema (model_after g cs) edits) k) as F [
       | true ↦ λ e. last_changed g edits cs k e
       | false ↦ λ e. last_kept g edits cs k (last_of g cs k) e (last_of_last g cs k)
     ] in

@@ -8,7 +8,8 @@ use Rattle.audit_model.specs.Keys.{changes, keeps_all}
 use Rattle.audit_model.specs.Needs.{need}
 use Rattle.audit_model.specs.History.{Ground, model_after, model_of, last_of, stands_by}
 use Rattle.audit_model.proofs.Tests.{list_all-both}
-use Rattle.audit_model.proofs.Frame.{Stays, stays}
+use Rattle.audit_model.specs.FacetLaws.{Stays}
+use Rattle.audit_model.proofs.Frame.{stays}
 
 -- the model of the last revision
 pub model_of-last : (g : Ground) (cs : List (List Edit)) → model_of g cs (length cs) ≡ model_after g cs
@@ -31,20 +32,20 @@ later true r last n h = let e : nat_lt r (n + 1) ≡ true = lt-ltb r (n + 1) (om
 later false r last n h = refl
 
 -- A claim stands after one more commit where it stood and the commit keeps what its verdict needs.
-pub stands-commit : (g : Ground) (edits : List Edit) (cs : List (List Edit)) (c : Given) → c.revision ≤ length cs → stands_by g (edits ∷ cs) c ≡ (keeps_all (model_after g cs) (apply (model_after g cs) edits) (need g.specs c.pair (model_of g cs c.revision)) && stands_by g cs c)
+pub stands-commit : (g : Ground) (edits : List Edit) (cs : List (List Edit)) (c : Given) → c.revision ≤ length cs → stands_by g (edits ∷ cs) c ≡ (keeps_all g.schema (model_after g cs) (apply g.schema (model_after g cs) edits) (need g.schema g.specs c.pair (model_of g cs c.revision)) && stands_by g cs c)
 stands-commit g edits cs c h =
     rw (model_of-older g edits cs c.revision h)
-    (list_all-both _ _ _ (λ k. later (changes (model_after g cs) (apply (model_after g cs) edits) k) c.revision (last_of g cs k) (length cs) h) (need g.specs c.pair (model_of g cs c.revision)))
+    (list_all-both _ _ _ (λ k. later (changes g.schema (model_after g cs) (apply g.schema (model_after g cs) edits) k) c.revision (last_of g cs k) (length cs) h) (need g.schema g.specs c.pair (model_of g cs c.revision)))
 
 -- Where a claim stands, its verdict and its needs are those of now.
-pub stands_found : (g : Ground) (cs : List (List Edit)) (c : Given) → c.revision ≤ length cs → stands_by g cs c ≡ true → Stays g.specs c.pair (model_of g cs c.revision) (model_after g cs)
-stands_found g [] c h e = record { verdict_stays = refl; need_stays = refl }
+pub stands_found : (g : Ground) (cs : List (List Edit)) (c : Given) → c.revision ≤ length cs → stands_by g cs c ≡ true → Stays g.schema g.specs c.pair (model_of g cs c.revision) (model_after g cs)
+stands_found g [] c h e = record { element_stays = refl; verdict_stays = refl; need_stays = refl }
 stands_found g (edits ∷ cs) c h e =
     elim (cases_lt (length cs) c.revision) [
-      | inl lt ↦ rw (model_of-newest g edits cs c.revision lt) (record { verdict_stays = refl; need_stays = refl })
+      | inl lt ↦ rw (model_of-newest g edits cs c.revision lt) (record { element_stays = refl; verdict_stays = refl; need_stays = refl })
       | inr le ↦
-          let both : (keeps_all (model_after g cs) (apply (model_after g cs) edits) (need g.specs c.pair (model_of g cs c.revision)) ≡ true) × (stands_by g cs c ≡ true) = and_parts _ _ (sym (stands-commit g edits cs c le) ∙ e) in
-          let s : Stays g.specs c.pair (model_of g cs c.revision) (model_after g cs) = stands_found g cs c le both.1 in
-          let t : Stays g.specs c.pair (model_after g cs) (apply (model_after g cs) edits) = stays g.specs c.pair (model_after g cs) (apply (model_after g cs) edits) (rw s.need_stays both.0) in
-          rw (model_of-older g edits cs c.revision le) (record { verdict_stays = t.verdict_stays ∙ s.verdict_stays; need_stays = t.need_stays ∙ s.need_stays })
+          let both : (keeps_all g.schema (model_after g cs) (apply g.schema (model_after g cs) edits) (need g.schema g.specs c.pair (model_of g cs c.revision)) ≡ true) × (stands_by g cs c ≡ true) = and_parts _ _ (sym (stands-commit g edits cs c le) ∙ e) in
+          let s : Stays g.schema g.specs c.pair (model_of g cs c.revision) (model_after g cs) = stands_found g cs c le both.1 in
+          let t : Stays g.schema g.specs c.pair (model_after g cs) (apply g.schema (model_after g cs) edits) = stays g.schema g.specs c.pair (model_after g cs) (apply g.schema (model_after g cs) edits) (rw s.need_stays both.0) in
+          rw (model_of-older g edits cs c.revision le) (record { element_stays = t.element_stays ∙ s.element_stays; verdict_stays = t.verdict_stays ∙ s.verdict_stays; need_stays = t.need_stays ∙ s.need_stays })
     ]

@@ -141,7 +141,7 @@ last_most : (g : Ground) (cs : List (List Edit)) (k : Key) → last_of g cs k �
 last_most g [] k = omega arith
 last_most g (edits ∷ cs) k =
     let before : last_of g cs k ≤ length cs = last_most g cs k in
-    elim (changes (model_after g cs) (apply (model_after g cs) edits) k) as (λ b. (if b then length cs + 1 else last_of g cs k) ≤ suc (length cs)) [ true ↦ omega arith | false ↦ omega (arith, before) ]
+    elim (changes g.schema (model_after g cs) (apply g.schema (model_after g cs) edits) k) as (λ b. (if b then length cs + 1 else last_of g cs k) ≤ suc (length cs)) [ true ↦ omega arith | false ↦ omega (arith, before) ]
 
 nothing_since : (g : Ground) (cs : List (List Edit)) (r : ℕ) (k : Key) → length cs ≡ r → nat_lt r (last_of g cs k) ≡ false
 nothing_since g cs r k e = let le : last_of g cs k ≤ length cs = last_most g cs k in le-ltb _ _ (omega (arith, le, e))
@@ -163,7 +163,7 @@ held_is h n p r e =
 deliver_is : (g : Ground) (h : List StepRec) (n : ℕ) (p : Pair) (r : ℕ) → revision h ≡ r → deliver_reply g (claim_made n p r h) (claim_of n p r) ≡ Used
 deliver_is g h n p r e =
     ap (λ (o : Option Key). delivered o (last_change g (claim_made n p r h)))
-    (find_never (changed_since g (claim_made n p r h) r) (λ k. nothing_since g (commits h) r k e) (need g.specs p (model_at g (claim_made n p r h) r)))
+    (find_never (changed_since g (claim_made n p r h) r) (λ k. nothing_since g (commits h) r k e) (need g.schema g.specs p (model_at g (claim_made n p r h) r)))
 
 deliver_answers : (g : Ground) (h : List StepRec) (n : ℕ) (p : Pair) (r : ℕ) → out h ≡ [] → revision h ≡ r → MayFollow g (claim_made n p r h) (caller_entry (Deliver n) Used)
 deliver_answers g h n p r o e = (claim_of n p r, record { is_held = held_is h n p r o; by = refl }, sym (deliver_is g h n p r e))
@@ -178,7 +178,7 @@ given_round h n p r e =
     omega (arith, a, b, e)
 
 stands_now : (g : Ground) (h : List StepRec) (n : ℕ) (p : Pair) (r : ℕ) → revision h ≡ r → stands_by g (commits h) (claim_of n p r) ≡ true
-stands_now g h n p r e = all_true _ (λ k. ap not (nothing_since g (commits h) r k e)) (need g.specs p (model_of g (commits h) r))
+stands_now g h n p r e = all_true _ (λ k. ap not (nothing_since g (commits h) r k e)) (need g.schema g.specs p (model_of g (commits h) r))
 
 settles_more : (s a b : Bool) → ((s && true) || (a || b)) ≡ (a || (b || (s || false)))
 settles_more true true b = refl

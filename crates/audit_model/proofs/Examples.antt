@@ -22,12 +22,17 @@ use Rattle.audit_model.specs.declared.step.Reply.TheVariants.{Began, Accepted, R
 use Rattle.audit_model.specs.declared.step.StepRec.{StepRec}
 use Rattle.audit_model.specs.Keys.{changes}
 use Rattle.audit_model.specs.Needs.{need}
+use Rattle.audit_model.specs.Verdicts.{verdict_of}
+use Rattle.restrictions.specs.Admitting.{admits_text}
+use Rattle.schema_table.specs.Schema.{Schema, attributes, place_of}
+use Rattle.schema_table.specs.Faults.{instance_fault}
 use Rattle.audit_model.specs.Judging.{judge, dangling}
 use Rattle.ifc_base.specs.Refs.{refs_of}
 use Rattle.ifc_base.specs.declared.value.ValueNode.{the_lemmas}
 use Rattle.audit_model.specs.History.{Ground, revision, out, claim_numbered}
 use Rattle.audit_model.specs.Machine.{claim_reply, deliver_reply, publish_reply, commit_reply, is_full}
 use Rattle.audit_model.specs.Drain.{drain}
+use Rattle.restrictions.specs.declared.condition.Condition.TheVariants.{Simple}
 
 -- Runs.
 
@@ -57,14 +62,18 @@ wall id params = record { id = id; entity = codes "IFCWALL"; params = params }
 abbrev group : ℕ → List Value → Instance
 group id params = record { id = id; entity = codes "IFCGROUP"; params = params }
 
+-- a schema in which walls and groups have no attributes
+abbrev walls_and_groups : Schema
+walls_and_groups = record { name = codes "IFCWALL"; parent = None; is_abstract = false; own = []; derived = [] } ∷ record { name = codes "IFCGROUP"; parent = None; is_abstract = false; own = []; derived = [] } ∷ []
+
 abbrev is_wall : Facet
-is_wall = Entity (record { name = codes "IFCWALL"; predefined = None })
+is_wall = Entity (record { name = Simple (codes "IFCWALL"); predefined = None })
 
 abbrev walls_are_walls : Specification
 walls_are_walls = record { number = 1; for_model = true; occurs = occurrence.Optional; applicability = is_wall ∷ []; requirements = record { facet = is_wall; cardinality = cardinality.Required } ∷ [] }
 
 abbrev on : Limits → List Instance → Ground
-on limits first = record { specs = walls_are_walls ∷ []; first = first; limits = limits }
+on limits first = record { schema = walls_and_groups; specs = walls_are_walls ∷ []; first = first; limits = limits }
 
 abbrev ample : Limits
 ample = record { steps = 1000; revisions = 10; instances = 4 }
@@ -79,33 +88,34 @@ pair id = record { spec = 1; elem = id }
 
 change_back_is_a_change : replies (on ample two_walls) [] (Claim ∷ Begin ∷ Commit 0 (Remove 10 ∷ []) ∷ Begin ∷ Commit 1 (Add (wall 10 []) ∷ []) ∷ Deliver 1 ∷ Claim ∷ Deliver 2 ∷ Claim ∷ Deliver 3 ∷ Claim ∷ Publish ∷ []) ≡
     Claimed 1 (pair 10) 0 ∷ Began 0 ∷ Accepted 1 ∷ Began 1 ∷ Accepted 2 ∷ Stale (Inst 10) 2 ∷ Claimed 2 (pair 10) 2 ∷ Used ∷ Claimed 3 (pair 11) 2 ∷ Used ∷ Idle ∷ Report 2 ∷ []
-unfolding judge changes need
+unfolding judge changes need instance_fault attributes place_of admits_text verdict_of
 change_back_is_a_change = refl
 
 unrelated_change_is_used : replies (on ample two_walls) [] (Claim ∷ Begin ∷ Commit 0 (Remove 11 ∷ []) ∷ Deliver 1 ∷ Claim ∷ Publish ∷ []) ≡ Claimed 1 (pair 10) 0 ∷ Began 0 ∷ Accepted 1 ∷ Used ∷ Idle ∷ Report 1 ∷ []
-unfolding judge changes need
+unfolding judge changes need instance_fault attributes place_of admits_text verdict_of
 unrelated_change_is_used = refl
 
 pending_then_published : replies (on ample two_walls) [] (Publish ∷ Claim ∷ Deliver 1 ∷ Claim ∷ Publish ∷ Deliver 2 ∷ Publish ∷ []) ≡ Pending (pair 10) ∷ Claimed 1 (pair 10) 0 ∷ Used ∷ Claimed 2 (pair 11) 0 ∷ Pending (pair 11) ∷ Used ∷ Report 0 ∷ []
-unfolding judge changes need
+unfolding judge changes need instance_fault attributes place_of admits_text verdict_of
 pending_then_published = refl
 
 claims_in_order : replies (on ample two_walls) [] (Claim ∷ GiveBack 1 ∷ Claim ∷ Claim ∷ Claim ∷ []) ≡ Claimed 1 (pair 10) 0 ∷ Back ∷ Claimed 2 (pair 10) 0 ∷ Claimed 3 (pair 11) 0 ∷ Idle ∷ []
-unfolding judge changes need
+unfolding judge changes need instance_fault attributes place_of admits_text verdict_of
 claims_in_order = refl
 
 -- a removed element's pair isn't waited for, and a changed one is unsettled again
 settled_again : replies (on ample two_walls) [] (Claim ∷ Deliver 1 ∷ Commit 0 (Remove 11 ∷ []) ∷ Publish ∷ Commit 1 (Remove 10 ∷ []) ∷ Publish ∷ Commit 2 (Add (wall 10 []) ∷ []) ∷ Publish ∷ []) ≡
     Claimed 1 (pair 10) 0 ∷ Used ∷ Accepted 1 ∷ Report 1 ∷ Accepted 2 ∷ Report 2 ∷ Accepted 3 ∷ Pending (pair 10) ∷ []
-unfolding judge changes need
+unfolding judge changes need instance_fault attributes place_of admits_text verdict_of
 settled_again = refl
 
 -- an instance that is removed and added again in one commit isn't changed
 removed_and_added : replies (on ample (wall 10 [] ∷ [])) [] (Claim ∷ Deliver 1 ∷ Commit 0 (Remove 10 ∷ Add (wall 10 []) ∷ []) ∷ Publish ∷ []) ≡ Claimed 1 (pair 10) 0 ∷ Used ∷ Accepted 1 ∷ Report 1 ∷ []
-unfolding judge changes need
+unfolding judge changes need instance_fault attributes place_of admits_text verdict_of
 removed_and_added = refl
 
 drain_of_two_walls : map (λ e. e.reply) (drain (on ample two_walls)) ≡ Claimed 1 (pair 10) 0 ∷ Used ∷ Claimed 2 (pair 11) 0 ∷ Used ∷ Idle ∷ Report 0 ∷ []
+unfolding admits_text
 drain_of_two_walls = refl
 
 full_at_one_step : (is_full (on (record { steps = 1; revisions = 1; instances = 2 }) two_walls) [] 2 ≡ true) × (is_full (on (record { steps = 1; revisions = 1; instances = 2 }) two_walls) [] 1 ≡ false) × (is_full (on (record { steps = 1; revisions = 1; instances = 2 }) two_walls) (record { actor = 1; call = Begin; reply = Began 0 } ∷ []) 1 ≡ true)
@@ -114,16 +124,16 @@ full_at_one_step = (refl, refl, refl)
 -- Commits.
 
 conflict_between_editors : replies (on ample two_walls) [] (Commit 0 (Remove 11 ∷ []) ∷ Commit 0 (Remove 10 ∷ Remove 11 ∷ []) ∷ Commit 0 (Remove 10 ∷ []) ∷ []) ≡ Accepted 1 ∷ Refused (EditRefused 2 (Conflict 11 1)) ∷ Accepted 2 ∷ []
-unfolding judge changes need
+unfolding judge changes need instance_fault attributes place_of admits_text verdict_of
 conflict_between_editors = refl
 
 refused_edits : replies (on ample two_walls) [] (Commit 0 (Add (group 10 []) ∷ []) ∷ Commit 0 (Add (group 20 []) ∷ Remove 20 ∷ Remove 20 ∷ []) ∷ Commit 0 (Add (group 20 []) ∷ Set 10 (codes "Name") (text_value (codes "X")) ∷ []) ∷ Commit 0 [] ∷ []) ≡
     Refused (EditRefused 1 (IdTaken 10)) ∷ Refused (EditRefused 3 (NoInstance 20)) ∷ Refused (EditRefused 2 (NoAttribute 10 (codes "Name"))) ∷ Accepted 1 ∷ []
-unfolding judge changes need
+unfolding judge changes need instance_fault attributes place_of admits_text verdict_of
 refused_edits = refl
 
 limits_of_commits : replies (on (record { steps = 1000; revisions = 1; instances = 2 }) two_walls) [] (Commit 0 (Add (group 20 []) ∷ []) ∷ Commit 0 (Remove 10 ∷ Add (group 20 []) ∷ []) ∷ Commit 1 [] ∷ []) ≡ Refused (EditRefused 1 TooManyInstances) ∷ Accepted 1 ∷ Refused RevisionsFull ∷ []
-unfolding judge changes need
+unfolding judge changes need instance_fault attributes place_of admits_text verdict_of
 limits_of_commits = refl
 
 -- References. Within lists and typed parameters they count.

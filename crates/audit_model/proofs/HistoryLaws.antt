@@ -18,12 +18,11 @@ use Rattle.audit_model.specs.Judging.{judge}
 use Rattle.audit_model.specs.History.{Ground, AllModels, model_after, model_of, accepted, accepted_by, commits, revision, current, last_change, out, used, used_by, settled, settled_by, stands_by}
 use Rattle.audit_model.specs.Machine.{Answers, MayFollow, Legal, committed, claimed, delivered, published}
 use Rattle.ifc_base.specs.declared.key.Key.{Key}
-use Rattle.audit_model.specs.Laws.{CommitsAreNumbered, accepted_as, down_from, OneReply, CallsDetermine, calls, ModelsAscend, RefusedChangesNothing, IsUsedDelivery, SettledByDelivery, EarlierModelsStay, SettledIsPair, NeedsCoverVerdict}
+use Rattle.audit_model.specs.Laws.{CommitsAreNumbered, accepted_as, down_from, OneReply, CallsDetermine, calls, ModelsAscend, RefusedChangesNothing, IsUsedDelivery, SettledByDelivery, EarlierModelsStay, SettledIsPair}
 use Rattle.audit_model.proofs.Apart.{same_pair-true}
 use Rattle.audit_model.proofs.Commits.{model_of-older}
 use Rattle.audit_model.proofs.Claims.{sound_used}
 use Rattle.audit_model.proofs.EditLaws.{model_applied}
-use Rattle.audit_model.proofs.Frame.{Stays, stays}
 use Rattle.audit_model.proofs.PairLaws.{settled_pair}
 
 -- One reply.
@@ -126,8 +125,8 @@ models_after g h actor (Deliver n) (Accepted r) a m s = s
 models_after g h actor (GiveBack n) (Accepted r) a m s = s
 models_after g h actor Publish (Accepted r) a m s = s
 models_after g h actor (Commit base edits) (Accepted r) a m s =
-    let judged : judge g.limits (revision h) (last_change g h) base (current g h) edits ≡ None = committed_none _ r _ a.1 in
-    (model_applied g.limits (revision h) (last_change g h) base (current g h) edits judged m, s)
+    let judged : judge g.schema g.limits (revision h) (last_change g h) base (current g h) edits ≡ None = committed_none _ r _ a.1 in
+    (model_applied g.schema g.limits (revision h) (last_change g h) base (current g h) edits judged m, s)
 
 pub newest_model : (g : Ground) (cs : List (List Edit)) → AllModels g cs → IsModel (model_after g cs)
 newest_model g [] s = s
@@ -143,7 +142,7 @@ all_models g (e ∷ h) m l =
 model_of_one : (g : Ground) (cs : List (List Edit)) (r : ℕ) → AllModels g cs → IsModel (model_of g cs r)
 model_of_one g [] r s = s
 model_of_one g (edits ∷ cs) r s =
-    elim (nat_le r (length cs)) as (λ b. IsModel (if b then model_of g cs r else apply (model_after g cs) edits)) [ true ↦ model_of_one g cs r s.1 | false ↦ s.0 ]
+    elim (nat_le r (length cs)) as (λ b. IsModel (if b then model_of g cs r else apply g.schema (model_after g cs) edits)) [ true ↦ model_of_one g cs r s.1 | false ↦ s.0 ]
 
 pub models_ascend : ModelsAscend
 models_ascend g h r m l = model_of_one g (commits h) r (all_models g h m l)
@@ -208,8 +207,3 @@ settled_by_delivery g h e p none s =
 
 pub settled_is_pair : SettledIsPair
 settled_is_pair g h p m l s = settled_pair g (commits h) (used h) p (all_models g h m l) (sound_used g h l) s
-
--- What a verdict needs.
-
-pub needs_cover_verdict : NeedsCoverVerdict
-needs_cover_verdict specs p m n e = let s : Stays specs p m n = stays specs p m n e in (s.verdict_stays, s.need_stays)

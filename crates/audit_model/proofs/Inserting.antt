@@ -7,6 +7,7 @@ use Rattle.std.proofs.lemmas.List.{take_all, drop_all, at_drop_more}
 use Rattle.ifc_base.specs.declared.value.Instance.{Instance}
 use Rattle.ifc_base.specs.declared.key.Key.{Key}
 use Rattle.ifc_base.specs.declared.key.Key.TheVariants.{Inst}
+use Rattle.schema_table.specs.Schema.{Schema}
 use Rattle.audit_model.specs.declared.commit.Edit.{Edit}
 use Rattle.audit_model.specs.declared.commit.CommitRefusal.TheVariants.{RevisionsFull}
 use Rattle.audit_model.specs.declared.step.Limits.{Limits}
@@ -49,24 +50,24 @@ insert_none x m e =
     at refl e
 
 -- judging from one edit on
-pub judge_next : (limits : Limits) (last : Key → ℕ) (base n : ℕ) (m : List Instance) (es : List Edit) (i : ℕ) (e : Edit) → i < length es → e ≡ get_or es i e → judge_from limits last base n m (drop i es) ≡ refused_or (fault_of limits last base m e) n (judge_from limits last base (n + 1) (edited m e) (drop (i + 1) es))
-judge_next limits last base n m es i e l at =
-    let k : judge_from limits last base n m (drop i es) ≡ judge_from limits last base n m (get_or es i e ∷ drop (i + 1) es) = at_drop_more (λ (xs : List Edit). judge_from limits last base n m xs) es i e l in
-    k ∙ ap (λ (x : Edit). refused_or (fault_of limits last base m x) n (judge_from limits last base (n + 1) (edited m x) (drop (i + 1) es))) (sym at)
+pub judge_next : (s : Schema) (limits : Limits) (last : Key → ℕ) (base n : ℕ) (m : List Instance) (es : List Edit) (i : ℕ) (e : Edit) → i < length es → e ≡ get_or es i e → judge_from s limits last base n m (drop i es) ≡ refused_or (fault_of s limits last base m e) n (judge_from s limits last base (n + 1) (edited s m e) (drop (i + 1) es))
+judge_next s limits last base n m es i e l at =
+    let k : judge_from s limits last base n m (drop i es) ≡ judge_from s limits last base n m (get_or es i e ∷ drop (i + 1) es) = at_drop_more (λ (xs : List Edit). judge_from s limits last base n m xs) es i e l in
+    k ∙ ap (λ (x : Edit). refused_or (fault_of s limits last base m x) n (judge_from s limits last base (n + 1) (edited s m x) (drop (i + 1) es))) (sym at)
 
-pub apply_next : (m : List Instance) (es : List Edit) (i : ℕ) (e : Edit) → i < length es → e ≡ get_or es i e → apply m (drop i es) ≡ apply (edited m e) (drop (i + 1) es)
-apply_next m es i e l at =
-    let k : apply m (drop i es) ≡ apply m (get_or es i e ∷ drop (i + 1) es) = at_drop_more (λ (xs : List Edit). apply m xs) es i e l in
-    k ∙ ap (λ (x : Edit). apply (edited m x) (drop (i + 1) es)) (sym at)
+pub apply_next : (s : Schema) (m : List Instance) (es : List Edit) (i : ℕ) (e : Edit) → i < length es → e ≡ get_or es i e → apply s m (drop i es) ≡ apply s (edited s m e) (drop (i + 1) es)
+apply_next s m es i e l at =
+    let k : apply s m (drop i es) ≡ apply s m (get_or es i e ∷ drop (i + 1) es) = at_drop_more (λ (xs : List Edit). apply s m xs) es i e l in
+    k ∙ ap (λ (x : Edit). apply s (edited s m x) (drop (i + 1) es)) (sym at)
 
 -- judging whole, where the limit of revisions isn't met
-pub judge_whole : (limits : Limits) (r : ℕ) (last : Key → ℕ) (base : ℕ) (m : List Instance) (es : List Edit) → nat_lt r limits.revisions ≡ true → judge limits r last base m es ≡ option_or (judge_from limits last base 1 m es) (dangling m (apply m es))
+pub judge_whole : (s : Schema) (limits : Limits) (r : ℕ) (last : Key → ℕ) (base : ℕ) (m : List Instance) (es : List Edit) → nat_lt r limits.revisions ≡ true → judge s limits r last base m es ≡ option_or (judge_from s limits last base 1 m es) (dangling m (apply s m es))
 unfolding judge
-judge_whole limits r last base m es e = rw e
+judge_whole s limits r last base m es e = rw e
 
-pub judge_full : (limits : Limits) (r : ℕ) (last : Key → ℕ) (base : ℕ) (m : List Instance) (es : List Edit) → nat_lt r limits.revisions ≡ false → judge limits r last base m es ≡ Some RevisionsFull
+pub judge_full : (s : Schema) (limits : Limits) (r : ℕ) (last : Key → ℕ) (base : ℕ) (m : List Instance) (es : List Edit) → nat_lt r limits.revisions ≡ false → judge s limits r last base m es ≡ Some RevisionsFull
 unfolding judge
-judge_full limits r last base m es e = rw e
+judge_full s limits r last base m es e = rw e
 
 -- an edit whose instance no commit after the base changed has no conflict
 pub no_conflict : (last : Key → ℕ) (base : ℕ) (e : Edit) → last (Inst (edit_id e)) ≤ base → conflict_of last base e ≡ None

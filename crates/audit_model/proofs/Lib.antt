@@ -1,4 +1,6 @@
 pub mod Tests
+pub mod NeedLaws
+pub mod NeedOrder
 pub mod Frame
 pub mod Commits
 pub mod Claims
@@ -16,8 +18,14 @@ pub mod ChangeLaws
 pub mod PairOrder
 pub mod DanglingLaws
 pub mod OrderLemmas
-pub mod RestrictionLemmas
 mod RunExamples
 pub mod RunLaws
 pub mod RunLegal
 pub mod Telling
+pub mod ClosureLaws
+pub mod Rows
+mod Row15
+pub mod Row4
+mod Row12
+mod Row17
+mod Row34

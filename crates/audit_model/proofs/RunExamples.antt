@@ -12,7 +12,7 @@ use Rattle.audit_model.specs.declared.step.Reply.{Reply}
 use Rattle.audit_model.specs.declared.step.Reply.TheVariants.{Began, Accepted, Refused, Claimed, Idle, Used, Stale, Back}
 use Rattle.ifc_base.specs.declared.key.Role.TheVariants as role
 use Rattle.ifc_base.specs.declared.key.Key.TheVariants.{Refs}
-use Rattle.audit_model.specs.declared.commit.InstanceFault.TheVariants.{UnknownEntity, AbstractEntity, ParamCount, MisplacedDerived}
+use Rattle.schema_table.specs.declared.fault.InstanceFault.TheVariants.{UnknownEntity, AbstractEntity, ParamCount, MisplacedDerived}
 use Rattle.audit_model.specs.declared.commit.EditFault.TheVariants.{IdTaken, NoInstance, NoAttribute, Schema, TooManyInstances}
 use Rattle.audit_model.specs.declared.commit.CommitRefusal.TheVariants.{RevisionsFull, Edit as EditRefused, Dangling}
 use Rattle.audit_model.specs.declared.step.StepRec.{StepRec}
@@ -26,23 +26,33 @@ use Rattle.std.specs.Fmt.{digits}
 use Rattle.std.proofs.Math.Utf8.{encode}
 use Rattle.audit_model.specs.Keys.{changes}
 use Rattle.audit_model.specs.Needs.{need}
+use Rattle.audit_model.specs.Verdicts.{verdict_of}
+use Rattle.restrictions.specs.Admitting.{admits_text}
+use Rattle.schema_table.specs.Schema as schema
+use Rattle.schema_table.specs.Schema.{attributes, place_of}
+use Rattle.schema_table.specs.Faults.{instance_fault}
 use Rattle.audit_model.specs.Judging.{judge}
 use Rattle.audit_model.specs.History.{Ground}
 use Rattle.audit_model.specs.Serial.{serial, meets_full}
 use Rattle.audit_model.specs.Output.{reply_text, output}
+use Rattle.restrictions.specs.declared.condition.Condition.TheVariants.{Simple}
 
 abbrev wall : ℕ → Instance
 wall id = record { id = id; entity = codes "IFCWALL"; params = [] }
 
+-- a schema in which walls and groups have no attributes
+abbrev walls_and_groups : schema.Schema
+walls_and_groups = record { name = codes "IFCWALL"; parent = None; is_abstract = false; own = []; derived = [] } ∷ record { name = codes "IFCGROUP"; parent = None; is_abstract = false; own = []; derived = [] } ∷ []
+
 abbrev is_wall : Facet
-is_wall = Entity (record { name = codes "IFCWALL"; predefined = None })
+is_wall = Entity (record { name = Simple (codes "IFCWALL"); predefined = None })
 
 abbrev walls_are_walls : Specification
 walls_are_walls = record { number = 1; for_model = true; occurs = occurrence.Optional; applicability = is_wall ∷ []; requirements = record { facet = is_wall; cardinality = cardinality.Required } ∷ [] }
 
 -- two walls, and room for so many steps
 abbrev two_walls : ℕ → Ground
-two_walls steps = record { specs = walls_are_walls ∷ []; first = wall 10 ∷ wall 11 ∷ []; limits = record { steps = steps; revisions = 10; instances = 4 } }
+two_walls steps = record { schema = walls_and_groups; specs = walls_are_walls ∷ []; first = wall 10 ∷ wall 11 ∷ []; limits = record { steps = steps; revisions = 10; instances = 4 } }
 
 -- one phase, of these lines of one editor
 abbrev phase : ℕ → List Act → Phase
@@ -56,59 +66,59 @@ abbrev texts : Ground → List Phase → List ℕ
 texts g phases = output g (serial g phases)
 
 sync_alone : texts (two_walls 100) (phase 1 [] ∷ []) ≡ lines (codes "report 0" ∷ codes "spec 1 pass applicable 2 failed 0" ∷ codes "end pass" ∷ [])
-unfolding judge changes need scratch report_text digits
+unfolding judge changes need scratch report_text digits instance_fault attributes place_of admits_text verdict_of
 sync_alone = refl
 
 change_back : texts (two_walls 100) (phase 1 (Take ∷ Begin ∷ Change (Remove 10) ∷ Commit ∷ Begin ∷ Change (Add (wall 10)) ∷ Commit ∷ Give ∷ []) ∷ []) ≡
     lines (codes "1 take 1 #10 0" ∷ codes "1 open 0" ∷ codes "1 commit 1" ∷ codes "1 open 1" ∷ codes "1 commit 2" ∷ codes "1 give stale inst #10 2" ∷ codes "report 2" ∷ codes "spec 1 pass applicable 2 failed 0" ∷ codes "end pass" ∷ [])
-unfolding judge changes need scratch report_text digits
+unfolding judge changes need scratch report_text digits instance_fault attributes place_of admits_text verdict_of
 change_back = refl
 
 unrelated_change : texts (two_walls 100) (phase 1 (Take ∷ Begin ∷ Change (Remove 11) ∷ Commit ∷ Give ∷ []) ∷ []) ≡
     lines (codes "1 take 1 #10 0" ∷ codes "1 open 0" ∷ codes "1 commit 1" ∷ codes "1 give used" ∷ codes "report 1" ∷ codes "spec 1 pass applicable 1 failed 0" ∷ codes "end pass" ∷ [])
-unfolding judge changes need scratch report_text digits
+unfolding judge changes need scratch report_text digits instance_fault attributes place_of admits_text verdict_of
 unrelated_change = refl
 
 pending : texts (two_walls 100) (phase 1 (Publish ∷ []) ∷ []) ≡ lines (codes "1 pending 1 #10" ∷ codes "report 0" ∷ codes "spec 1 pass applicable 2 failed 0" ∷ codes "end pass" ∷ [])
-unfolding judge changes need scratch report_text digits
+unfolding judge changes need scratch report_text digits instance_fault attributes place_of admits_text verdict_of
 pending = refl
 
 -- two editors in turn: the output has the lines of editor 1 first
 two_editors : texts (two_walls 100) (record { lines = (record { editor = 2; act = Begin }) ∷ (record { editor = 1; act = Begin }) ∷ (record { editor = 2; act = Change (Remove 11) }) ∷ (record { editor = 2; act = Commit }) ∷ (record { editor = 1; act = Change (Remove 11) }) ∷ (record { editor = 1; act = Commit }) ∷ [] } ∷ []) ≡
     lines (codes "1 open 0" ∷ codes "1 refused 1 conflict #11 1" ∷ codes "2 open 0" ∷ codes "2 commit 1" ∷ codes "report 1" ∷ codes "spec 1 pass applicable 1 failed 0" ∷ codes "end pass" ∷ [])
-unfolding judge changes need scratch report_text digits
+unfolding judge changes need scratch report_text digits instance_fault attributes place_of admits_text verdict_of
 two_editors = refl
 
 -- `work` stops at an Idle, and `publish` has its report in the output
 work_and_publish : texts (two_walls 100) (phase 1 (Work 5 ∷ Publish ∷ []) ∷ []) ≡
     lines (codes "1 take 1 #10 0" ∷ codes "1 give used" ∷ codes "1 take 1 #11 0" ∷ codes "1 give used" ∷ codes "1 idle" ∷ codes "1 published" ∷ codes "report 0" ∷ codes "spec 1 pass applicable 2 failed 0" ∷ codes "end pass"
     ∷ codes "report 0" ∷ codes "spec 1 pass applicable 2 failed 0" ∷ codes "end pass" ∷ [])
-unfolding judge changes need scratch report_text digits
+unfolding judge changes need scratch report_text digits instance_fault attributes place_of admits_text verdict_of
 work_and_publish = refl
 
 -- `work 2` makes no third claim, and a `give` after an Idle makes no entry
 give_after_idle : texts (two_walls 100) (phase 1 (Work 2 ∷ Take ∷ Give ∷ []) ∷ []) ≡
     lines (codes "1 take 1 #10 0" ∷ codes "1 give used" ∷ codes "1 take 1 #11 0" ∷ codes "1 give used" ∷ codes "1 idle" ∷ codes "report 0" ∷ codes "spec 1 pass applicable 2 failed 0" ∷ codes "end pass" ∷ [])
-unfolding judge changes need scratch report_text digits
+unfolding judge changes need scratch report_text digits instance_fault attributes place_of admits_text verdict_of
 give_after_idle = refl
 
 two_phases : texts (two_walls 100) (phase 1 [] ∷ phase 3 (Begin ∷ Change (Remove 10) ∷ Commit ∷ []) ∷ []) ≡
     lines (codes "report 0" ∷ codes "spec 1 pass applicable 2 failed 0" ∷ codes "end pass" ∷ codes "3 open 0" ∷ codes "3 commit 1" ∷ codes "report 1" ∷ codes "spec 1 pass applicable 1 failed 0" ∷ codes "end pass" ∷ [])
-unfolding judge changes need scratch report_text digits
+unfolding judge changes need scratch report_text digits instance_fault attributes place_of admits_text verdict_of
 two_phases = refl
 
 -- A drain of two pairs needs room for six entries. With five it ends before the third claim, and no phase is whole.
 room_for_six : meets_full (two_walls 6) (phase 1 [] ∷ []) ≡ false
-unfolding judge changes need
+unfolding judge changes need instance_fault attributes place_of admits_text verdict_of
 room_for_six = refl
 
 full_at_five : (meets_full (two_walls 5) (phase 1 [] ∷ []) ≡ true) × (length (serial (two_walls 5) (phase 1 [] ∷ [])) ≡ 4) × (texts (two_walls 5) (phase 1 [] ∷ []) ≡ [])
-unfolding judge changes need scratch report_text digits
+unfolding judge changes need scratch report_text digits instance_fault attributes place_of admits_text verdict_of
 full_at_five = (refl, refl, refl)
 
 -- a claim that is out keeps room for its own end
 claim_keeps_room : (meets_full (two_walls 3) (phase 1 (Take ∷ Begin ∷ Publish ∷ []) ∷ []) ≡ true) × (map (λ e. e.reply) (serial (two_walls 3) (phase 1 (Take ∷ Begin ∷ Publish ∷ []) ∷ [])) ≡ Claimed 1 (record { spec = 1; elem = 10 }) 0 ∷ Began 0 ∷ [])
-unfolding judge changes need
+unfolding judge changes need instance_fault attributes place_of admits_text verdict_of
 claim_keeps_room = (refl, refl)
 
 -- What an editor's lines make stands in the relation to them.
@@ -126,7 +136,7 @@ abbrev their_entries : List StepRec
 their_entries = entry 1 calls.Begin (Began 0) ∷ entry 1 (calls.Commit 0 (Remove 11 ∷ [])) (Accepted 1) ∷ worked
 
 are_their_entries : filter (λ e. e.actor == 1) (serial (two_walls 100) (phase 1 some_acts ∷ [])) ≡ their_entries
-unfolding judge changes need
+unfolding judge changes need instance_fault attributes place_of admits_text verdict_of
 are_their_entries = refl
 
 they_follow : Follows 1 some_acts their_entries

@@ -169,13 +169,13 @@ first_model g (edits ∷ cs) = let e : nat_le 0 (length cs) ≡ true = le-leb 0 
 apart_from_zero : Each (λ k. (0 == k) ≡ false) editors
 apart_from_zero = (refl, (refl, (refl, (refl, (refl, (refl, (refl, (refl, (refl, (refl, (refl, (refl, (refl, (refl, (refl, (refl, tt))))))))))))))))
 
-text_of_drain : (g : Ground) (h : List StepRec) (ps : List Pair) → phase_text g h (drain_from 1 0 ps) ≡ audit_text g.specs g.first 0
+text_of_drain : (g : Ground) (h : List StepRec) (ps : List Pair) → phase_text g h (drain_from 1 0 ps) ≡ audit_text g.schema g.specs g.first 0
 text_of_drain g h ps =
     (λ i. no_lines g h 1 0 ps editors apart_from_zero i ++ flat_map (λ e. report_in g h e.reply) (one_report 1 0 ps i))
-    ∙ append-nil (audit_text g.specs (model_at g h 0) 0)
-    ∙ ap (λ (m : List Instance). audit_text g.specs m 0) (first_model g (commits h))
+    ∙ append-nil (audit_text g.schema g.specs (model_at g h 0) 0)
+    ∙ ap (λ (m : List Instance). audit_text g.schema g.specs m 0) (first_model g (commits h))
 
-output_of_drain : (g : Ground) → output g (drain g) ≡ audit_text g.specs g.first 0
+output_of_drain : (g : Ground) → output g (drain g) ≡ audit_text g.schema g.specs g.first 0
 output_of_drain g =
     ap (λ (phases : List (List StepRec)). flat_map (λ phase. phase_text g (reverse (drain g)) phase) phases) (one_phase 1 0 (pairs_in g g.first))
     ∙ append-nil (phase_text g (reverse (drain g)) (drain g))

@@ -116,7 +116,7 @@ early_report g h actor (GiveBack n) reply a = early_as (revision h) reply _ a.2 
 early_report g h actor Publish reply a = early_as (revision h) reply _ a (early_published (revision h) _)
 
 same_report : (g : Ground) (later h : List StepRec) (reply : Reply) → IsEarly (revision h) reply → report_in g (later ++ h) reply ≡ report_in g h reply
-same_report g later h (Report r) e = ap (λ m. audit_text g.specs m r) (earlier_models_stay g later h r e)
+same_report g later h (Report r) e = ap (λ m. audit_text g.schema g.specs m r) (earlier_models_stay g later h r e)
 same_report g later h (Began r) e = refl
 same_report g later h (Accepted r) e = refl
 same_report g later h (Refused why) e = refl

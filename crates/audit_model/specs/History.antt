@@ -15,6 +15,7 @@ use Rattle.audit_model.specs.declared.step.Reply.{Reply}
 use Rattle.audit_model.specs.declared.step.Reply.TheVariants.{Accepted, Claimed, Used}
 use Rattle.audit_model.specs.declared.step.StepRec.{StepRec}
 use Rattle.audit_model.specs.declared.step.Given.{Given}
+use Rattle.schema_table.specs.Schema.{Schema}
 use Rattle.audit_model.specs.Models.{IsModel}
 use Rattle.audit_model.specs.Edits.{apply}
 use Rattle.audit_model.specs.Keys.{changes}
@@ -22,8 +23,9 @@ use Rattle.audit_model.specs.Pairs.{pairs, same_pair}
 use Rattle.audit_model.specs.Needs.{need}
 use Rattle.audit_model.specs.Judging.{judge}
 
--- what stays the same from the first entry to the last: the specifications, the model of the file, and the limits
+-- what stays the same from the first entry to the last: the schema, the specifications, the model of the file, and the limits
 pub record Ground : Type 0 where
+  pub schema : Schema
   pub specs : List Specification
   pub first : List Instance
   pub limits : Limits
@@ -36,18 +38,18 @@ pairs_in g m = pairs g.specs m
 
 -- the keys that the verdict on the pair needs in the model
 abbrev pub need_in : Ground → Pair → List Instance → List Key
-need_in g p m = need g.specs p m
+need_in g p m = need g.schema g.specs p m
 
 -- the model with these edits done
 abbrev pub apply_in : Ground → List Instance → List Edit → List Instance
-apply_in g m edits = apply m edits
+apply_in g m edits = apply g.schema m edits
 
 -- the commit from the one model to the other changes the key
 abbrev pub changes_in : Ground → List Instance → List Instance → Key → Bool
-changes_in g m n k = changes m n k
+changes_in g m n k = changes g.schema m n k
 
 abbrev pub judge_in : Ground → ℕ → (Key → ℕ) → ℕ → List Instance → List Edit → Option CommitRefusal
-judge_in g revision last base m edits = judge g.limits revision last base m edits
+judge_in g revision last base m edits = judge g.schema g.limits revision last base m edits
 
 -- Commits. They are given as the edits of each, the newest first. Revision 0 is the file, and each commit makes the next.
 

@@ -1,7 +1,7 @@
 -- Whether the edits of a commit are accepted, or the first reason why not.
-use Rattle.std.specs.Prelude.{ℕ, ◌+◌, min, Bool, false, not, ◌&&◌, ◌==◌, nat_lt, if◌then◌else◌, List, [], ◌∷◌, length, Option, Some, None, filter, flat_map}
+use Rattle.std.specs.Prelude.{ℕ, ◌+◌, min, Bool, false, not, ◌&&◌, ◌==◌, nat_lt, if◌then◌else◌, List, [], ◌∷◌, length, Option, Some, None, is_some, filter, flat_map}
 use Rattle.std.specs.List.{list_any}
-use Rattle.std.specs.Option.{option_or, option_map, option_map_or}
+use Rattle.std.specs.Option.{option_or, option_map, option_map_or, option_and_then}
 use Rattle.ifc_base.specs.declared.value.Instance.{Instance}
 use Rattle.ifc_base.specs.declared.key.Key.{Key}
 use Rattle.ifc_base.specs.declared.key.Key.TheVariants.{Inst}
@@ -9,34 +9,43 @@ use Rattle.ifc_base.specs.Refs.{refs_of}
 use Rattle.audit_model.specs.declared.commit.Edit.{Edit}
 use Rattle.audit_model.specs.declared.commit.Edit.TheVariants.{Add, Set, Remove}
 use Rattle.audit_model.specs.declared.commit.EditFault.{EditFault}
-use Rattle.audit_model.specs.declared.commit.EditFault.TheVariants.{Conflict, IdTaken, NoInstance, NoAttribute, TooManyInstances}
+use Rattle.audit_model.specs.declared.commit.EditFault.TheVariants.{Conflict, IdTaken, NoInstance, NoAttribute, Schema, TooManyInstances}
 use Rattle.audit_model.specs.declared.commit.CommitRefusal.{CommitRefusal}
 use Rattle.audit_model.specs.declared.commit.CommitRefusal.TheVariants.{RevisionsFull, Edit as EditRefused, Dangling}
 use Rattle.audit_model.specs.declared.step.Limits.{Limits}
+use Rattle.schema_table.specs.Schema as schema
+use Rattle.schema_table.specs.Schema.{place_of}
+use Rattle.schema_table.specs.Faults.{instance_fault}
 use Rattle.audit_model.specs.Models.{is_present, instance_at}
-use Rattle.audit_model.specs.Edits.{edit_id, edited, apply}
+use Rattle.audit_model.specs.Edits.{edit_id, with_attribute, edited, apply}
 
 -- One edit. `last` gives the last revision that changed a key (0: none did), `base` is the revision on which the edits were
--- drafted, and m is the model with the edits before this one done. The first of the four faults that follow is the edit's fault.
+-- drafted, and m is the model with the edits before this one done. The first of the five faults that follow is the edit's fault.
 
 -- a commit after the draft's base changed the instance that the edit names
 abbrev pub conflict_of : (Key → ℕ) → ℕ → Edit → Option EditFault
 conflict_of last base e = if nat_lt base (last (Inst (edit_id e))) then Some (Conflict (edit_id e) (last (Inst (edit_id e)))) else None
 
--- The id to add is there, or there is no instance of the id to set or remove; by whether an instance of the edit's id is there.
-abbrev pub id_fault_given : Bool → Edit → Option EditFault
-id_fault_given present (Add x) = if present then Some (IdTaken x.id) else None
-id_fault_given present (Set id attr value) = if present then None else Some (NoInstance id)
-id_fault_given present (Remove id) = if present then None else Some (NoInstance id)
+-- The id to add is there, or there is no instance of the id to set or remove; by the instance that is there.
+abbrev pub id_fault_given : Option Instance → Edit → Option EditFault
+id_fault_given held (Add x) = if is_some held then Some (IdTaken x.id) else None
+id_fault_given held (Set id attr value) = if is_some held then None else Some (NoInstance id)
+id_fault_given held (Remove id) = if is_some held then None else Some (NoInstance id)
 
 abbrev pub id_fault_of : List Instance → Edit → Option EditFault
-id_fault_of m e = id_fault_given (is_present (edit_id e) m) e
+id_fault_of m e = id_fault_given (instance_at (edit_id e) m) e
 
--- The entity has no attribute of this name. Declarations say which attributes an entity has; without them it has none.
-abbrev pub attribute_fault_of : Edit → Option EditFault
-attribute_fault_of (Add x) = None
-attribute_fault_of (Set id attr value) = Some (NoAttribute id attr)
-attribute_fault_of (Remove id) = None
+-- the entity of the instance has no attribute of this name
+abbrev pub attribute_fault_given : schema.Schema → Option Instance → Edit → Option EditFault
+attribute_fault_given s held (Add x) = None
+attribute_fault_given s held (Set id attr value) = option_and_then (λ x. if is_some (place_of s x.entity attr) then None else Some (NoAttribute id attr)) held
+attribute_fault_given s held (Remove id) = None
+
+-- the added or the changed instance doesn't fit the schema
+abbrev pub schema_fault_given : schema.Schema → Option Instance → Edit → Option EditFault
+schema_fault_given s held (Add x) = option_map (Schema x.id) (instance_fault s x)
+schema_fault_given s held (Set id attr value) = option_and_then (λ x. option_map (Schema id) (instance_fault s (with_attribute s attr value x))) held
+schema_fault_given s held (Remove id) = None
 
 -- One more instance would be more than the limit allows; by how many there are.
 abbrev pub room_fault_given : Limits → ℕ → Edit → Option EditFault
@@ -47,15 +56,16 @@ room_fault_given limits count (Remove id) = None
 abbrev pub room_fault_of : Limits → List Instance → Edit → Option EditFault
 room_fault_of limits m e = room_fault_given limits (length m) e
 
--- the edit's fault, by whether an instance of its id is there and by how many instances there are
-abbrev pub fault_given : Limits → (Key → ℕ) → ℕ → Bool → ℕ → Edit → Option EditFault
-fault_given limits last base present count e =
-    option_or (conflict_of last base e) (option_or (id_fault_given present e) (option_or (attribute_fault_of e) (room_fault_given limits count e)))
+-- the fault of an edit that has no conflict, by the instance of its id that is there and by how many instances there are
+abbrev pub edit_fault : schema.Schema → Limits → Option Instance → ℕ → Edit → Option EditFault
+edit_fault s limits held count e =
+    option_or (id_fault_given held e) (option_or (attribute_fault_given s held e) (option_or (schema_fault_given s held e) (room_fault_given limits count e)))
 
-abbrev pub fault_of : Limits → (Key → ℕ) → ℕ → List Instance → Edit → Option EditFault
-fault_of limits last base m e = fault_given limits last base (is_present (edit_id e) m) (length m) e
+abbrev pub fault_given : schema.Schema → Limits → (Key → ℕ) → ℕ → Option Instance → ℕ → Edit → Option EditFault
+fault_given s limits last base held count e = option_or (conflict_of last base e) (edit_fault s limits held count e)
 
--- Edit by edit.
+abbrev pub fault_of : schema.Schema → Limits → (Key → ℕ) → ℕ → List Instance → Edit → Option EditFault
+fault_of s limits last base m e = fault_given s limits last base (instance_at (edit_id e) m) (length m) e
 
 -- A refusal carries the number of the edit as a u32: the true one, or 4,294,967,295 where the true one is greater.
 abbrev pub carried_number : ℕ → ℕ
@@ -66,10 +76,10 @@ refused_or None number rest = rest
 refused_or (Some fault) number rest = Some (EditRefused (carried_number number) fault)
 
 -- each edit is judged on the model with the edits before it done; number is that of the first of these
-abbrev pub judge_from : Limits → (Key → ℕ) → ℕ → ℕ → List Instance → List Edit → Option CommitRefusal
-judge_from limits last base number m [] = None
-judge_from limits last base number m (e ∷ es) =
-    refused_or (fault_of limits last base m e) number (judge_from limits last base (number + 1) (edited m e) es)
+abbrev pub judge_from : schema.Schema → Limits → (Key → ℕ) → ℕ → ℕ → List Instance → List Edit → Option CommitRefusal
+judge_from s limits last base number m [] = None
+judge_from s limits last base number m (e ∷ es) =
+    refused_or (fault_of s limits last base m e) number (judge_from s limits last base (number + 1) (edited s m e) es)
 
 -- References to missing instances.
 
@@ -102,6 +112,6 @@ dangling m n = dangling_from m n n
 
 -- Whole commits: the limit of revisions first, then the edits in turn, then the references of the model that they make. A commit
 -- without edits is accepted.
-unfoldable pub judge : Limits → ℕ → (Key → ℕ) → ℕ → List Instance → List Edit → Option CommitRefusal
-judge limits revision last base m edits =
-    if nat_lt revision limits.revisions then option_or (judge_from limits last base 1 m edits) (dangling m (apply m edits)) else Some RevisionsFull
+unfoldable pub judge : schema.Schema → Limits → ℕ → (Key → ℕ) → ℕ → List Instance → List Edit → Option CommitRefusal
+judge s limits revision last base m edits =
+    if nat_lt revision limits.revisions then option_or (judge_from s limits last base 1 m edits) (dangling m (apply s m edits)) else Some RevisionsFull

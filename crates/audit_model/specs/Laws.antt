@@ -16,9 +16,6 @@ use Rattle.audit_model.specs.declared.step.Given.{Given}
 use Rattle.audit_model.specs.Models.{IsModel}
 use Rattle.audit_model.specs.Pairs.{is_pair, pairs, NumberedFrom}
 use Rattle.audit_model.specs.Judging.{is_dangling, dangling}
-use Rattle.audit_model.specs.Keys.{keeps_all}
-use Rattle.audit_model.specs.Needs.{need}
-use Rattle.audit_model.specs.Verdicts.{verdict}
 use Rattle.audit_model.specs.History.{Ground, changes_in, accepted, revision, current, model_at, last_change, out, claim_numbered, settled}
 use Rattle.audit_model.specs.Machine.{Answers, Legal}
 
@@ -87,11 +84,6 @@ EarlierModelsStay = (g : Ground) (later h : List StepRec) (r : ℕ) → r ≤ re
 -- A settled pair is a pair of the current model.
 abbrev pub SettledIsPair : Type 0
 SettledIsPair = (g : Ground) (h : List StepRec) (p : Pair) → IsModel g.first → Legal g h → settled g h p ≡ true → is_pair g.specs (current g h) p ≡ true
-
--- Where a commit from m to n changes no key that the verdict on a pair needs in m, verdict and needs are in n what they are in m.
-abbrev pub NeedsCoverVerdict : Type 0
-NeedsCoverVerdict = (specs : List Specification) (p : Pair) (m n : List Instance) → keeps_all m n (need specs p m) ≡ true →
-    (verdict specs p n ≡ verdict specs p m) × (need specs p n ≡ need specs p m)
 
 -- the commit that made the revision r + 1 changed the key
 abbrev pub changed_at : Ground → List StepRec → ℕ → Key → Bool

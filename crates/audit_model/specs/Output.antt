@@ -6,8 +6,8 @@ use Rattle.ifc_base.specs.declared.key.Role.{Role}
 use Rattle.ifc_base.specs.declared.key.Role.TheVariants as role
 use Rattle.ifc_base.specs.declared.key.Key.{Key}
 use Rattle.ifc_base.specs.declared.key.Key.TheVariants.{Inst, Refs}
-use Rattle.audit_model.specs.declared.commit.InstanceFault.{InstanceFault}
-use Rattle.audit_model.specs.declared.commit.InstanceFault.TheVariants.{UnknownEntity, AbstractEntity, ParamCount, MisplacedDerived}
+use Rattle.schema_table.specs.declared.fault.InstanceFault.{InstanceFault}
+use Rattle.schema_table.specs.declared.fault.InstanceFault.TheVariants.{UnknownEntity, AbstractEntity, ParamCount, MisplacedDerived}
 use Rattle.audit_model.specs.declared.commit.EditFault.{EditFault}
 use Rattle.audit_model.specs.declared.commit.EditFault.TheVariants.{Conflict, IdTaken, NoInstance, NoAttribute, Schema, TooManyInstances}
 use Rattle.audit_model.specs.declared.commit.CommitRefusal.{CommitRefusal}
@@ -83,7 +83,7 @@ reply_text limits (Report r) = codes "published"
 -- The text of the report that a reply gives; none for any other reply. The history h, with the newest entry first, says which model
 -- each revision is.
 abbrev pub report_in : Ground → List StepRec → Reply → List ℕ
-report_in g h (Report r) = audit_text g.specs (model_at g h r) r
+report_in g h (Report r) = audit_text g.schema g.specs (model_at g h r) r
 report_in g h reply = []
 
 -- the line of an editor's entry: its number, a blank and the words for the reply; after a publish the report

@@ -9,6 +9,7 @@ use Rattle.audit_model.specs.declared.specification.Occurs.TheVariants as occurr
 use Rattle.audit_model.specs.declared.specification.Specification.{Specification}
 use Rattle.audit_model.specs.declared.report.Failing.{Failing}
 use Rattle.audit_model.specs.declared.report.Tally.{Tally}
+use Rattle.schema_table.specs.Schema.{Schema}
 use Rattle.audit_model.specs.Scratch.{scratch}
 
 -- An optional specification passes where no element fails it, a required one where moreover it applies to some element, a
@@ -71,5 +72,5 @@ report_text revision tallies =
     line (codes "report " ++ decimal revision) ++ tallies_lines 1 tallies ++ line (codes "end " ++ pass_word (all_pass tallies))
 
 -- the text of the audit from scratch of a model at a revision
-abbrev pub audit_text : List Specification → List Instance → ℕ → List ℕ
-audit_text specs m revision = report_text revision (scratch specs m)
+abbrev pub audit_text : Schema → List Specification → List Instance → ℕ → List ℕ
+audit_text s specs m revision = report_text revision (scratch s specs m)

@@ -24,7 +24,7 @@ HasRoomToDrain g = 2 * length (pairs_in g g.first) + 2 ≤ g.limits.steps
 -- A script of one `sync` makes the drain of the file, and its output is the report of the file's model as revision 0.
 abbrev pub SyncDrainsFile : Type 0
 SyncDrainsFile = (g : Ground) → NumberedFrom 1 g.specs → IsModel g.first → HasRoomToDrain g →
-    (serial g only_sync ≡ drain g) × (meets_full g only_sync ≡ false) × (output g (serial g only_sync) ≡ audit_text g.specs g.first 0)
+    (serial g only_sync ≡ drain g) × (meets_full g only_sync ≡ false) × (output g (serial g only_sync) ≡ audit_text g.schema g.specs g.first 0)
 
 -- After a legal history in which no claim is out the drain at the end of a phase is `drain_after`, where the limit of steps has room
 -- for it: two entries for each unsettled pair, the Idle and the report.

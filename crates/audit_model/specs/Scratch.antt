@@ -1,6 +1,7 @@
 -- The audit from scratch: every specification is asked of every instance of the model.
 use Rattle.std.specs.Prelude.{ℕ, Bool, true, false, List, [], ◌∷◌, map, length, filter, filter_map, Option, Some, None, if◌then◌else◌}
 use Rattle.ifc_base.specs.declared.value.Instance.{Instance}
+use Rattle.schema_table.specs.Schema.{Schema}
 use Rattle.audit_model.specs.declared.specification.Occurs.{Occurs}
 use Rattle.audit_model.specs.declared.specification.Occurs.TheVariants as occurrence
 use Rattle.audit_model.specs.declared.specification.Specification.{Specification}
@@ -33,8 +34,8 @@ abbrev pub skipped_tally : Occurs → Tally
 skipped_tally occurs = record { skipped = true; occurs = occurs; applicable = 0; failing = [] }
 
 -- the specification asked of every instance
-abbrev pub tally : Specification → List Instance → Tally
-tally q m = if q.for_model then tally_from q.occurs (map (λ x. (x.id, verdict_of q x.id m)) m) else skipped_tally q.occurs
+abbrev pub tally : Schema → Specification → List Instance → Tally
+tally s q m = if q.for_model then tally_from q.occurs (map (λ x. (x.id, verdict_of s q x.id m)) m) else skipped_tally q.occurs
 
-unfoldable pub scratch : List Specification → List Instance → List Tally
-scratch specs m = map (λ q. tally q m) specs
+unfoldable pub scratch : Schema → List Specification → List Instance → List Tally
+scratch s specs m = map (λ q. tally s q m) specs

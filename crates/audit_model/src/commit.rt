@@ -1,4 +1,5 @@
 use ifc_base::{InstId, Instance, Listed, Memory, Name, TryCopy, Value};
+use schema_table::InstanceFault;
 use std::alloc::Global;
 
 /// One change of a model. Edits of a draft are numbered from 1.
@@ -18,16 +19,6 @@ pub enum Edit {
 
 /// The edits of a draft, in their order.
 pub type Edits = Listed<Edit>;
-
-/// Why an instance doesn't fit the schema (ISO 10303-21, mapping of entity instances). Places are
-/// from 1.
-#[derive(Debug, PartialEq, Eq, Drop)]
-pub enum InstanceFault {
-    UnknownEntity { name: Name },
-    AbstractEntity { name: Name },
-    ParamCount { found: u32, wanted: u32 },
-    MisplacedDerived { place: u32 },
-}
 
 /// Why an edit can't be done.
 #[derive(Debug, PartialEq, Eq, Drop)]
@@ -71,26 +62,6 @@ impl TryCopy for Edit {
                 })
             }
             Edit::Remove(id) => Ok(Edit::Remove(*id)),
-        }
-    }
-}
-
-impl TryCopy for InstanceFault {
-    fn copy(&self, alloc: Global) -> Result<InstanceFault, Memory> {
-        match self {
-            InstanceFault::UnknownEntity { name } => Ok(InstanceFault::UnknownEntity {
-                name: name.copy(alloc)?,
-            }),
-            InstanceFault::AbstractEntity { name } => Ok(InstanceFault::AbstractEntity {
-                name: name.copy(alloc)?,
-            }),
-            InstanceFault::ParamCount { found, wanted } => Ok(InstanceFault::ParamCount {
-                found: *found,
-                wanted: *wanted,
-            }),
-            InstanceFault::MisplacedDerived { place } => {
-                Ok(InstanceFault::MisplacedDerived { place: *place })
-            }
         }
     }
 }

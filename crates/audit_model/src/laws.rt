@@ -1,8 +1,12 @@
 //! Laws of the definitions. Each function does nothing: its contract is the law.
 ghost use Rattle.audit_model.specs.Drain.{DrainFollows, DrainOfFile};
+ghost use Rattle.audit_model.specs.FacetLaws.{ClosureLaw, HopLaw, NeedsAreEnough};
+ghost use Rattle.audit_model.specs.FacetLaws.{NeedsAreLookedAt, NeedsAscend};
+ghost use Rattle.audit_model.specs.FacetLaws.{NeedsCoverVerdict, OthersNotApplicable, OwnHidesTypes};
+ghost use Rattle.audit_model.specs.FacetLaws.{PairsAreThere};
 ghost use Rattle.audit_model.specs.Laws.{CallsDetermine, CommitsAreNumbered, DanglingIsLeast};
 ghost use Rattle.audit_model.specs.Laws.{EarlierModelsStay, LastChangeIsLast};
-ghost use Rattle.audit_model.specs.Laws.{ModelsAscend, NeedsCoverVerdict, OneReply, PairsAscend};
+ghost use Rattle.audit_model.specs.Laws.{ModelsAscend, OneReply, PairsAscend};
 ghost use Rattle.audit_model.specs.Laws.{RefusedChangesNothing, SettledByDelivery, SettledIsPair};
 
 /// After a history, an actor's call has at most one reply.
@@ -46,10 +50,50 @@ pub fn settled_is_pair()
     ensures { SettledIsPair }
 {}
 
-/// A verdict hangs on the keys that it needs alone: where a commit changes none of them, the
-/// verdict stays, and so do its needs.
+/// One hop reads the same in two models that agree on what it looks at in the first.
+pub fn hop_law()
+    ensures { HopLaw }
+{}
+
+/// And so does a closure by any steps that do.
+pub fn closure_law()
+    ensures { ClosureLaw }
+{}
+
+/// A need has the keys that are looked at where the pair is assessed, and no other.
+pub fn needs_are_looked_at()
+    ensures { NeedsAreLookedAt }
+{}
+
+/// The keys of a need ascend, so that the first of them with a property is the least with it.
+pub fn needs_ascend()
+    ensures { NeedsAscend }
+{}
+
+/// A property of the element hides those of the same names of its types.
+pub fn own_hides_types()
+    ensures { OwnHidesTypes }
+{}
+
+/// A verdict hangs on the contents of the keys that it needs alone: where two models agree on them,
+/// element, verdict and needs are the same.
+pub fn needs_are_enough()
+    ensures { NeedsAreEnough }
+{}
+
+/// So where a commit changes none of them, the element, the verdict and its needs stay.
 pub fn needs_cover_verdict()
     ensures { NeedsCoverVerdict }
+{}
+
+/// The element of a pair is an instance of the model.
+pub fn pairs_are_there()
+    ensures { PairsAreThere }
+{}
+
+/// A specification isn't applicable to an instance with which it makes no pair.
+pub fn others_not_applicable()
+    ensures { OthersNotApplicable }
 {}
 
 /// After a legal history in which no claim is out, a drain of the unsettled pairs goes on legally,

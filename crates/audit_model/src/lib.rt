@@ -6,28 +6,31 @@
 mod commit;
 mod facet;
 mod laws;
+mod look;
 mod order;
 mod report;
-mod restriction;
 mod run_laws;
 mod script;
 mod specification;
 mod step;
 mod verdict;
 
-pub use commit::{CommitRefusal, Edit, EditFault, Edits, InstanceFault};
+pub use commit::{CommitRefusal, Edit, EditFault, Edits};
 pub use facet::{
     AttributeFacet, ClassificationFacet, EntityFacet, Facet, Facets, MaterialFacet, PartOfFacet,
     PropertyFacet, Relation,
 };
 pub use laws::{
-    calls_determine, dangling_is_least, drain_follows, drain_of_file, earlier_models_stay,
-    last_change_is_last, models_ascend, needs_cover_verdict, one_reply, pairs_ascend,
-    refused_changes_nothing, settled_by_delivery, settled_is_pair,
+    calls_determine, closure_law, dangling_is_least, drain_follows, drain_of_file,
+    earlier_models_stay, hop_law, last_change_is_last, models_ascend, needs_are_enough,
+    needs_are_looked_at, needs_ascend, needs_cover_verdict, one_reply, others_not_applicable,
+    own_hides_types, pairs_are_there, pairs_ascend, refused_changes_nothing, settled_by_delivery,
+    settled_is_pair,
 };
+pub use look::Look;
 pub use order::in_order;
 pub use report::{Failing, Failings, ReportText, Tally, Texts};
-pub use restriction::Restriction;
+pub use restrictions::Restriction;
 pub use run_laws::{drain_ends, drain_is_done, output_is_told, serial_is_legal, sync_drains_file};
 pub use script::{Act, Phase, Phases, ScriptLine, ScriptLines};
 pub use specification::{

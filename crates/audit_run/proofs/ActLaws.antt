@@ -12,7 +12,7 @@ use Rattle.audit_model.specs.ScriptLines.{entry}
 use Rattle.model_view.specs.Views.{ClaimView, DraftView, SnapshotView}
 use Rattle.model_view.specs.declared.answers.NotPrepared.{NotPrepared}
 use Rattle.model_view.specs.declared.answers.NotPrepared.TheVariants as unprepared
-use Rattle.audit_core.specs.Cores.{CoreView, now_of}
+use Rattle.audit_core.specs.Cores.{CoreView, IsNow}
 use Rattle.audit_core.specs.Commits.{IsNotPrepared}
 use Rattle.audit_core.specs.Steps.{Adds, Unchanged, IsOut, IsGiven, given_of}
 use Rattle.audit_run.specs.declared.calls.Act.TheVariants as act
@@ -20,7 +20,7 @@ use Rattle.audit_run.specs.declared.calls.Asked.{Asked}
 use Rattle.audit_run.specs.declared.hands.Begun.{Begun}
 use Rattle.audit_run.specs.declared.hands.Taken.{Taken}
 use Rattle.audit_run.specs.Holding.{HandsView, begun_on, taken_as, drafted_by, taken_by, draft_of, claim_of}
-use Rattle.audit_run.specs.Acts.{AddsNone, Commits, Gives, Returns, Does, DoAll, begun, ended, spent, taken}
+use Rattle.audit_run.specs.Acts.{IsHeldAfter, AddsNone, Commits, Gives, Returns, Does, DoAll, begun, ended, spent, taken}
 use Rattle.audit_run.specs.Runs.{IsPlay, IsPlayed}
 use Rattle.audit_run.proofs.Firsts.{none_removed}
 
@@ -40,10 +40,10 @@ none_held f (Some x) r never e = absurd (never x refl)
 
 -- Drafts.
 
-pub begin_done : {old new : CoreView} (hands : HandsView) (actor : ℕ) (base : SnapshotView) → base ≡ now_of old → is_full old.ground old.history 1 ≡ false → Adds old new (entry actor call.Begin (reply.Began base.revision)) →
+pub begin_done : {old new : CoreView} (hands : HandsView) (actor : ℕ) (base : SnapshotView) → IsNow old.ground old.history base → is_full old.ground old.history 1 ≡ false → Adds old new (entry actor call.Begin (reply.Began base.revision)) →
     Does old.ground actor act.Begin old.history hands new.history (begun actor base hands)
 begin_done {old = old} hands actor base now f a =
-    inr (f, (a.history ∙ ap (λ (b : SnapshotView). entry actor call.Begin (reply.Began b.revision) ∷ old.history) now, ap (λ (b : SnapshotView). begun actor b hands) now))
+    inr (f, (base, now, (a.history ∙ ap (λ (r : ℕ). entry actor call.Begin (reply.Began r) ∷ old.history) now.revision, refl)))
 
 pub commit_none : (core : CoreView) (hands : HandsView) (actor : ℕ) (edits : List Edit) → None ≡ draft_of actor hands.drafts → Does core.ground actor (act.Commit edits) core.history hands core.history (ended actor hands)
 commit_none core hands actor edits e =
@@ -75,14 +75,13 @@ take_done {old = old} hands actor claim f a given =
       f,
       (
         a.history ∙ ap (λ (r : Reply). entry actor call.Claim r ∷ old.history) a.lawful,
-        ap (λ (s : SnapshotView). with_claims hands (hands.claims ++ taken_as actor (record { number = claim.number; pair = claim.pair; snapshot = s }) ∷ [])) given.snapshot
-            ∙ ap (λ (r : Reply). taken actor r (now_of old) hands) a.lawful,
+        subst (λ (r : Reply). IsHeldAfter old.ground actor old.history hands (taken actor claim hands) r) a.lawful (claim.snapshot, given.snapshot, refl),
       ),
     )
 
 pub idle_done : {old new : CoreView} (hands : HandsView) (actor : ℕ) → is_full old.ground old.history 2 ≡ false → Adds old new (entry actor call.Claim reply.Idle) → Does old.ground actor act.Take old.history hands new.history hands
 idle_done {old = old} hands actor f a =
-    inr (f, (a.history ∙ ap (λ (r : Reply). entry actor call.Claim r ∷ old.history) a.lawful, ap (λ (r : Reply). taken actor r (now_of old) hands) a.lawful))
+    inr (f, (a.history ∙ ap (λ (r : Reply). entry actor call.Claim r ∷ old.history) a.lawful, subst (λ (r : Reply). IsHeldAfter old.ground actor old.history hands hands r) a.lawful refl))
 
 without_none : (hands : HandsView) (actor : ℕ) → None ≡ claim_of actor hands.claims → spent actor hands ≡ hands
 without_none hands actor e = ap (with_claims hands) (none_removed (taken_by actor) hands.claims (sym e))

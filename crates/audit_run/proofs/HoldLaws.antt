@@ -21,7 +21,7 @@ use Rattle.audit_model.proofs.Numbers.{out_numbers, claim_number}
 use Rattle.audit_model.proofs.RunLegal.{revision_grows}
 use Rattle.audit_model.proofs.Tests.{Each, Each-found, or_true, Each-all}
 use Rattle.model_view.specs.Views.{ClaimView}
-use Rattle.audit_core.specs.Cores.{now_in}
+use Rattle.audit_core.specs.Cores.{IsNow}
 use Rattle.audit_core.specs.Steps.{given_of}
 use Rattle.audit_run.specs.declared.hands.Begun.{Begun}
 use Rattle.audit_run.specs.declared.hands.Taken.{Taken}
@@ -76,14 +76,14 @@ all_known g h [] l k = tt
 all_known g h (t ∷ ts) l k = (known g h t l k.0, all_known g h ts l k.1.1)
 
 -- a claim that was just given, of the model now, is taken beside the others
-pub taken_more : (g : Ground) (h : List StepRec) (ts : List Taken) (actor : ℕ) (c : ClaimView) → Legal g h → MayFollow g h (record { actor = actor; call = Claim; reply = Claimed c.number c.pair c.snapshot.revision }) → c.snapshot ≡ now_in g h →
+pub taken_more : (g : Ground) (h : List StepRec) (ts : List Taken) (actor : ℕ) (c : ClaimView) → Legal g h → MayFollow g h (record { actor = actor; call = Claim; reply = Claimed c.number c.pair c.snapshot.revision }) → IsNow g h c.snapshot →
     claim_numbered c.number (out (record { actor = actor; call = Claim; reply = Claimed c.number c.pair c.snapshot.revision } ∷ h)) ≡ Some (given_of actor c) → AreTaken g h ts → AreTaken g (record { actor = actor; call = Claim; reply = Claimed c.number c.pair c.snapshot.revision } ∷ h) (ts ++ record { actor = actor; claim = c } ∷ [])
 taken_more g h ts actor c l m now o k =
     let e : StepRec = record { actor = actor; call = Claim; reply = Claimed c.number c.pair c.snapshot.revision } in
     let next : c.number ≡ given h + 1 = claim_number (least_claimable g h) (given h + 1) c.number c.snapshot.revision (revision h) c.pair m in
     taken_push g (e ∷ h) (given h) ts (record { actor = actor; claim = c }) (all_known g h ts l k) (omega (arith, next))
     (all_taken g h e ts l (Each-all (LeavesOut h e) (claimed_leaves h actor c.number c.snapshot.revision c.pair) ts) k)
-    (record { is_out = o; snapshot_is = rw now (sym (model_of-last g (commits h))) })
+    (record { is_out = o; snapshot_is = rw (now.model, now.revision) (sym (model_of-last g (commits h))) })
 
 -- Ended claims.
 

@@ -2,3 +2,4 @@ pub mod ActLaws
 pub mod Firsts
 pub mod HoldLaws
 pub mod PlayLaws
+pub mod PlainLaws

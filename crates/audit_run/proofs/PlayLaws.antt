@@ -117,7 +117,7 @@ idle {old = old} {hands = hands} actor k a =
 pub out_of : {core : CoreView} {hands : HandsView} {actor : ℕ} {claim : ClaimView} {rest : List Taken} → IsHolding core hands → Some (taken_as actor claim) ≡ claim_of actor hands.claims → rest ≡ other_claims actor hands.claims → AreParted core.ground core.history (taken_as actor claim) rest
 out_of {core = core} {hands = hands} {actor = actor} {claim = claim} k e r = rw r (parted_first core.ground core.history actor hands.claims (taken_as actor claim) (sym e) k.claims)
 
-pub true_finding : {core : CoreView} {actor : ℕ} {claim : ClaimView} {finding : FindingView} → IsTaken core.ground core.history (record { actor = actor; claim = claim }) → IsFindingOf core.ground.specs claim finding → IsTrueFinding core actor finding
+pub true_finding : {core : CoreView} {actor : ℕ} {claim : ClaimView} {finding : FindingView} → IsTaken core.ground core.history (record { actor = actor; claim = claim }) → IsFindingOf core.ground.schema core.ground.specs claim finding → IsTrueFinding core actor finding
 true_finding k f = record {
   is_out = rw f.claim_is k.is_out;
   snapshot_is = rw f.claim_is k.snapshot_is;
@@ -178,7 +178,7 @@ play_more {old = old} {mid = mid} {new = new} {calls = calls} {asked = asked} {t
 -- Small steps.
 
 pub unchanged_self : (core : CoreView) → Unchanged core core
-unchanged_self core = record { history = refl; ground = refl; spare = omega arith; places = λ k h. h }
+unchanged_self core = record { history = refl; ground = refl; spare = omega arith }
 
 pub adds_on : {a b c : CoreView} {e : StepRec} → Unchanged a b → Adds b c e → Adds a c e
 adds_on u s = record {

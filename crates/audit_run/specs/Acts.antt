@@ -9,8 +9,8 @@ use Rattle.audit_model.specs.declared.step.StepRec.{StepRec}
 use Rattle.audit_model.specs.History.{Ground, revision}
 use Rattle.audit_model.specs.Machine.{claim_reply, commit_reply, deliver_reply, publish_reply, is_full}
 use Rattle.audit_model.specs.ScriptLines.{entry}
-use Rattle.model_view.specs.Views.{SnapshotView}
-use Rattle.audit_core.specs.Cores.{now_in}
+use Rattle.model_view.specs.Views.{ClaimView, SnapshotView}
+use Rattle.audit_core.specs.Cores.{IsNow}
 use Rattle.audit_core.specs.Steps.{given_of}
 use Rattle.audit_run.specs.declared.calls.Act.{Act}
 use Rattle.audit_run.specs.declared.calls.Act.TheVariants as act
@@ -31,10 +31,14 @@ begun actor base hands = record { drafts = other_drafts actor hands.drafts ++ be
 abbrev pub spent : ℕ → HandsView → HandsView
 spent actor hands = record { drafts = hands.drafts; claims = other_claims actor hands.claims }
 
-abbrev pub taken : ℕ → Reply → SnapshotView → HandsView → HandsView
-taken actor (reply.Claimed number pair revision) now hands =
-    record { drafts = hands.drafts; claims = hands.claims ++ taken_as actor (record { number = number; pair = pair; snapshot = now }) ∷ [] }
-taken actor _ now hands = hands
+abbrev pub taken : ℕ → ClaimView → HandsView → HandsView
+taken actor claim hands = record { drafts = hands.drafts; claims = hands.claims ++ taken_as actor claim ∷ [] }
+
+-- What the actors hold after a claim with this reply: a pair that it is given is held beside the others, at a snapshot of the model now.
+abbrev pub IsHeldAfter : Ground → ℕ → List StepRec → HandsView → HandsView → Reply → Type 0
+IsHeldAfter g actor h hands after (reply.Claimed number pair revision) =
+    (now : SnapshotView) × IsNow g h now × (after ≡ taken actor (record { number = number; pair = pair; snapshot = now }) hands)
+IsHeldAfter g actor h hands after _ = after ≡ hands
 
 -- After the history h no entry comes, and the actors then hold this.
 abbrev pub AddsNone : HandsView → List StepRec → List StepRec → HandsView → Type 0
@@ -44,12 +48,13 @@ AddsNone held h k after = (k ≡ h) × (after ≡ held)
 abbrev pub AddsOne : StepRec → HandsView → List StepRec → List StepRec → HandsView → Type 0
 AddsOne e held h k after = (k ≡ e ∷ h) × (after ≡ held)
 
--- Begin: one Begin on the current revision, whose draft then stands in place of the actor's first. Without room for the entry none
+-- Begin: one Begin on the current revision, whose draft on a snapshot of it then stands in place of the actor's first. Without room for the entry none
 -- comes, and none may come where memory is wanting; the actors then hold what they held.
 abbrev pub Begins : Ground → ℕ → List StepRec → HandsView → List StepRec → HandsView → Type 0
 Begins g actor h hands k after =
     AddsNone hands h k after
-    ⊎ ((is_full g h 1 ≡ false) × AddsOne (entry actor call.Begin (reply.Began (revision h))) (begun actor (now_in g h) hands) h k after)
+    ⊎ ((is_full g h 1 ≡ false)
+    × ((base : SnapshotView) × IsNow g h base × AddsOne (entry actor call.Begin (reply.Began (revision h))) (begun actor base hands) h k after))
 
 abbrev pub commit_entry : Ground → ℕ → ℕ → List Edit → List StepRec → StepRec
 commit_entry g actor base edits h = entry actor (call.Commit base edits) (commit_reply g h base edits)
@@ -67,7 +72,7 @@ Commits g actor edits (Some b) h hands k after =
 abbrev pub Takes : Ground → ℕ → List StepRec → HandsView → List StepRec → HandsView → Type 0
 Takes g actor h hands k after =
     AddsNone hands h k after
-    ⊎ ((is_full g h 2 ≡ false) × AddsOne (entry actor call.Claim (claim_reply g h)) (taken actor (claim_reply g h) (now_in g h) hands) h k after)
+    ⊎ ((is_full g h 2 ≡ false) × ((k ≡ entry actor call.Claim (claim_reply g h) ∷ h) × IsHeldAfter g actor h hands after (claim_reply g h)))
 
 -- Return: the return of the first claim that the actor holds; none comes only where it holds none.
 abbrev pub Returns : ℕ → Option Taken → List StepRec → HandsView → List StepRec → HandsView → Type 0

@@ -1,6 +1,7 @@
 -- What actors hold between their calls.
 use Rattle.std.specs.Prelude.{◌≡◌, ℕ, ◌<◌, Bool, true, false, ◌&&◌, ◌==◌, List, [], ◌∷◌, ◌++◌, length, nat_lt, Option, Some, find}
-use Rattle.std.specs.List.{list_all, list_any, before_first, after_first}
+use Rattle.std.specs.List.{list_any, before_first, after_first}
+use Rattle.schema_table.specs.Schema.{Schema}
 use Rattle.audit_model.specs.declared.specification.Specification.{Specification}
 use Rattle.audit_model.specs.Needs.{need}
 use Rattle.audit_model.specs.Verdicts.{verdict}
@@ -83,11 +84,7 @@ abbrev pub other_claims : ℕ → List Taken → List Taken
 other_claims actor ts = without_first (taken_by actor) ts
 
 -- the verdict and needs of the claim's pair at its snapshot
-pub record IsFindingOf (specs : List Specification) (claim : ClaimView) (finding : FindingView) : Type 0 where
+pub record IsFindingOf (s : Schema) (specs : List Specification) (claim : ClaimView) (finding : FindingView) : Type 0 where
   pub claim_is : finding.claim ≡ claim
-  pub verdict_is : finding.verdict ≡ verdict specs claim.pair claim.snapshot.model
-  pub needs_are : finding.needs ≡ need specs claim.pair claim.snapshot.model
-
--- each specification has fewer than 4,294,967,295 requirements
-abbrev pub HaveFewRequirements : List Specification → Type 0
-HaveFewRequirements specs = list_all (λ q. nat_lt (length q.requirements) 4294967295) specs ≡ true
+  pub verdict_is : finding.verdict ≡ verdict s specs claim.pair claim.snapshot.model
+  pub needs_are : finding.needs ≡ need s specs claim.pair claim.snapshot.model

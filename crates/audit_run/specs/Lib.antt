@@ -1,3 +1,4 @@
 pub mod Acts
 pub mod Holding
 pub mod Runs
+pub mod Plain

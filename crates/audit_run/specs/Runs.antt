@@ -42,7 +42,7 @@ IsRun h (asked ∷ more) k = (i : List StepRec) × (IsStep h asked i × IsRun i 
 
 -- the audit from scratch that a reply stands for, if it is a report
 abbrev pub reported : Ground → List StepRec → Reply → List (List ℕ)
-reported g h (Report r) = audit_text g.specs (model_at g h r) r ∷ []
+reported g h (Report r) = audit_text g.schema g.specs (model_at g h r) r ∷ []
 reported g h _ = []
 
 -- the texts of the audits from scratch of the revisions that a history's reports name, the oldest first

@@ -38,17 +38,20 @@ pub struct Asked {
     pub act: Act,
 }
 
-/// What evaluates claims. Its meaning are specifications.
+/// What evaluates claims. Its meaning are a schema and specifications.
 pub trait Evaluate {
     ghost use Rattle.std.specs.Prelude.{List};
+    ghost use Rattle.schema_table.specs.Schema.{Schema};
     ghost use Rattle.audit_model.specs.declared.specification.Specification.{Specification};
+
+    ghost schema: { Self → Schema };
 
     ghost specs: { Self → List Specification };
 
     /// The finding of a claim: the verdict and the needs of its pair at its snapshot. At `Err` the claim
     /// comes back.
     fn evaluate(&self, alloc: Global, claim: Claim) -> Result<Finding, (Memory, Claim)>
-        ensures ok { IfOk result (λ finding. IsFindingOf (specs self.now) claim finding) }
+        ensures ok { IfOk result (λ finding. IsFindingOf (schema self.now) (specs self.now) claim finding) }
         ensures back { IfErr result (λ back. back.1 ≡ claim) };
 }
 
@@ -103,6 +106,7 @@ fn take(core: &mut Core, hands: &mut Hands, actor: u32)
 /// Evaluates the first claim of the actor, if it has one, and delivers what was found.
 fn give<E: Evaluate>(alloc: Global, core: &mut Core, evaluator: &E, hands: &mut Hands, actor: u32)
     requires holding { IsHolding core.old hands.old }
+    requires schema { E.schema evaluator.now ≡ core.old.ground.schema }
     requires specs { E.specs evaluator.now ≡ core.old.ground.specs }
     ensures play { IsPlayed core.old core.new hands.new (record { actor = actor; act = Act.Give }) [] }
     ensures acts { Does core.old.ground actor Act.Give core.old.history hands.old core.new.history hands.new }
@@ -158,6 +162,7 @@ fn step<E: Evaluate>(
     texts: &mut Vec<ReportText>,
 )
     requires holding { IsHolding core.old hands.old }
+    requires schema { E.schema evaluator.now ≡ core.old.ground.schema }
     requires specs { E.specs evaluator.now ≡ core.old.ground.specs }
     ensures play { (told : List (List ℕ)) × ((texts.new.items ≡ texts.old.items ++ told)
         × IsPlayed core.old core.new hands.new asked told) }
@@ -190,6 +195,7 @@ pub fn run<E: Evaluate>(
     calls: Vec<Asked>,
 ) -> Vec<ReportText>
     requires holding { IsHolding core.old hands.old }
+    requires schema { E.schema evaluator.now ≡ core.old.ground.schema }
     requires specs { E.specs evaluator.now ≡ core.old.ground.specs }
     ensures play { IsPlay core.old core.new hands.new calls.items result.items }
     ensures acts { DoAll core.old.ground calls.items core.old.history hands.old core.new.history hands.new }

@@ -28,13 +28,15 @@ pub struct Hands {
 }
 
 impl Model for Hands {
-    ghost use Rattle.std.specs.Coded.{codes};
+    ghost use Rattle.std.specs.Coded.{codes, coded_ℕ, coded_list};
+    ghost use Rattle.std.specs.FinMap as map;
+    ghost use Rattle.std.specs.Ordering.{nat_cmp};
     ghost use Rattle.ifc_base.specs.contracts.value.Value as value;
     ghost use Rattle.audit_run.specs.Holding.{HandsView};
 
     ghost Value = { HandsView };
 
-    ghost coded = { Prim.hlevel (codes, value.the_row.coded) };
+    ghost coded = { Prim.hlevel (codes, value.the_row.coded, map.code {R = nat_cmp} coded_ℕ (coded_list coded_ℕ)) };
 
     ghost view = { λ hands. record { drafts = hands.drafts.items; claims = hands.claims.items } };
 }

@@ -1,57 +1,76 @@
-ghost use Rattle.std.specs.Prelude.{◌≡◌, ◌∷◌, [], ◌==◌, ◌<◌, ◌-◌, ◌^◌, find, length, IfOk, IfSome};
+ghost use Rattle.std.specs.Prelude.{◌≡◌, ◌∷◌, [], ◌==◌, ◌<◌, ◌-◌, ◌^◌, true, find, length, map, IfOk, IfSome, OnSome};
+ghost use Rattle.std.specs.List.{list_all};
 ghost use Rattle.std.specs.Option.{option_copied};
-ghost use Rattle.audit_model.specs.Facets.{entity_matches, facet_holds};
+ghost use Rattle.audit_model.specs.Models.{instance_at};
 ghost use Rattle.audit_model.specs.Needs.{need};
-ghost use Rattle.audit_model.specs.Verdicts.{is_applicable, requirement_met, unmet, unmet_from, verdict, verdict_of};
-ghost use Rattle.audit_run.specs.Holding.{HaveFewRequirements};
+ghost use Rattle.audit_model.specs.Specifications.{AreBuilt, AreSpecifications};
+ghost use Rattle.audit_model.specs.Verdicts.{numbers_of_false, verdict};
+ghost use Rattle.audit_run.specs.Plain.{holds_of, is_plain_specification, meets, plain_verdict, ArePlain};
 
 use crate::calls::Evaluate;
-use audit_model::{
-    Cardinality, EntityFacet, Facet, Occurs, Pair, Requirement, Specification, Verdict,
-};
-use ifc_base::{InstId, Instance, Key, Keys, Memory, Numbers};
+use audit_model::{Cardinality, Facet, Occurs, Pair, Requirement, Specification, Verdict};
+use ifc_base::{Instance, Key, Keys, Memory, Numbers};
 use model_view::{Claim, Finding, Snapshot};
+use schema_table::SchemaTable;
 use std::alloc::Global;
 use std::marker::Model;
 
-/// Evaluates claims as the definitions say it: it asks each facet of the element, and looks at nothing
-/// else. It is slow, and other evaluators can be compared with it.
+/// Evaluates claims by specifications whose facets are all entity facets without a predefined type: it
+/// looks at the element, and at nothing else.
 #[derive(Drop)]
 pub struct PlainEvaluator<'a> {
+    schema: &'a SchemaTable,
     specs: &'a [Specification],
 }
 
 impl<'a> Model for PlainEvaluator<'a> {
-    ghost use Rattle.std.specs.Prelude.{List};
     ghost use Rattle.std.specs.Coded.{codes};
-    ghost use Rattle.audit_model.specs.declared.specification.Specification.{Specification};
-    ghost use Rattle.audit_run.specs.Holding.{HaveFewRequirements};
+    ghost use Rattle.ifc_base.specs.contracts.value.Value as value;
+    ghost use Rattle.restrictions.specs.contracts.condition.Condition as condition;
+    ghost use Rattle.audit_run.specs.Plain.{ArePlain, EvaluatorView};
 
-    ghost Value = { List Specification };
+    ghost Value = { EvaluatorView };
 
-    ghost view = { λ evaluator. evaluator.specs.now };
+    ghost coded = { Prim.hlevel (codes, value.the_row.coded, condition.the_row.coded) };
 
-    ghost invariant = { λ evaluator. HaveFewRequirements evaluator.specs.now };
+    ghost view = { λ evaluator. record { schema = evaluator.schema.now; specs = evaluator.specs.now } };
+
+    ghost invariant = { λ evaluator. ArePlain evaluator.specs.now };
 }
 
 impl<'a> PlainEvaluator<'a> {
-    /// The evaluator by these specifications, each of which has fewer than 4,294,967,295 requirements.
-    pub fn new(specs: &'a [Specification]) -> PlainEvaluator<'a>
-        requires { HaveFewRequirements specs.now }
-        ensures { result ≡ specs.now }
+    /// The evaluator by these specifications under this schema.
+    pub fn new(schema: &'a SchemaTable, specs: &'a [Specification]) -> PlainEvaluator<'a>
+        requires specifications { AreSpecifications specs.now }
+        requires built { AreBuilt specs.now }
+        ensures { result ≡ record { schema = schema.now; specs = specs.now } }
     {
-        PlainEvaluator { specs }
+        PlainEvaluator { schema, specs }
     }
 }
 
 impl<'a> Evaluate for PlainEvaluator<'a> {
-    ghost specs = { λ evaluator. evaluator };
+    ghost schema = { λ evaluator. evaluator.schema };
+
+    ghost specs = { λ evaluator. evaluator.specs };
 
     fn evaluate(&self, alloc: Global, claim: Claim) -> Result<Finding, (Memory, Claim)> {
-        let Ok(verdict) = verdict_on(alloc, self.specs, claim.pair(), claim.snapshot()) else {
+        let Ok(verdict) = verdict_on(
+            alloc,
+            self.schema,
+            self.specs,
+            claim.pair(),
+            claim.snapshot(),
+        ) else {
             return Err((Memory, claim));
         };
-        let Ok(needs) = needs_of(alloc, self.specs, claim.pair(), claim.snapshot()) else {
+        let Ok(needs) = needs_of(
+            alloc,
+            self.schema,
+            self.specs,
+            claim.pair(),
+            claim.snapshot(),
+        ) else {
             return Err((Memory, claim));
         };
         Ok(Finding::new(claim, verdict, needs))
@@ -59,14 +78,15 @@ impl<'a> Evaluate for PlainEvaluator<'a> {
 }
 
 /// The keys that the verdict on the pair needs.
-#[tactic(auto, unfolding(audit_model::specs::Needs::need))]
 fn needs_of(
     alloc: Global,
+    _schema: &SchemaTable,
     _specs: &[Specification],
     pair: Pair,
     _snapshot: &Snapshot,
 ) -> Result<Keys, Memory>
-    ensures { IfOk result (λ needs. needs ≡ need _specs.now pair _snapshot.now.model) }
+    requires { ArePlain _specs.now }
+    ensures { IfOk result (λ needs. needs ≡ need _schema.now _specs.now pair _snapshot.now.model) }
 {
     let mut needs = Keys::new(alloc);
     match needs.push(Key::Inst(pair.elem)) {
@@ -77,119 +97,109 @@ fn needs_of(
 
 /// The specification of this number, if there is one.
 fn specification(specs: &[Specification], number: u32) -> Option<&Specification>
-    requires { HaveFewRequirements specs.now }
+    requires { ArePlain specs.now }
     ensures value { option_copied result ≡ find (λ spec. spec.number == number) specs.now }
-    ensures few { IfSome result (λ spec. length spec.now.requirements < 2 ^ 32 - 1) }
+    ensures plain { IfSome result (λ spec. is_plain_specification spec.now ≡ true) }
 {
     specs.iter().find(|spec| spec.number == number)
 }
 
 /// The verdict on the pair at the snapshot.
-#[tactic(auto, unfolding(audit_model::specs::Verdicts::verdict))]
 fn verdict_on(
     alloc: Global,
+    _schema: &SchemaTable,
     specs: &[Specification],
     pair: Pair,
     snapshot: &Snapshot,
 ) -> Result<Verdict, Memory>
-    requires { HaveFewRequirements specs.now }
-    ensures { IfOk result (λ found. found ≡ verdict specs.now pair snapshot.now.model) }
+    requires { ArePlain specs.now }
+    ensures { IfOk result (λ found. found ≡ verdict _schema.now specs.now pair snapshot.now.model) }
 {
     match specification(specs, pair.spec) {
-        Some(spec) => verdict_of(alloc, spec, pair.elem, snapshot),
+        Some(spec) => verdict_of(alloc, spec, snapshot.instance(pair.elem)),
         None => Ok(Verdict::NotApplicable),
     }
 }
 
-/// The verdict of the specification on the element.
+/// The verdict of the specification on the instance, if there is one.
 fn verdict_of(
     alloc: Global,
     spec: &Specification,
-    elem: InstId,
-    snapshot: &Snapshot,
+    instance: Option<&Instance>,
 ) -> Result<Verdict, Memory>
-    requires { length spec.now.requirements < 2 ^ 32 - 1 }
-    ensures { IfOk result (λ found. found ≡ verdict_of spec.now elem snapshot.now.model) }
+    requires { is_plain_specification spec.now ≡ true }
+    ensures { IfOk result (λ found. found ≡ plain_verdict spec.now (option_copied instance.entry)) }
 {
-    if !is_applicable(spec, elem, snapshot) {
+    if !is_applicable(alloc, spec.applicability.as_slice(), instance)? {
         return Ok(Verdict::NotApplicable);
     }
     match spec.occurs {
         Occurs::Prohibited => Ok(Verdict::Applicable(Numbers::new(alloc))),
-        Occurs::Required => Ok(Verdict::Applicable(unmet(
-            alloc,
-            spec.requirements.as_slice(),
-            elem,
-            snapshot,
-        )?)),
-        Occurs::Optional => Ok(Verdict::Applicable(unmet(
-            alloc,
-            spec.requirements.as_slice(),
-            elem,
-            snapshot,
-        )?)),
+        Occurs::Required => Ok(Verdict::Applicable(unmet(alloc, spec, instance)?)),
+        Occurs::Optional => Ok(Verdict::Applicable(unmet(alloc, spec, instance)?)),
     }
 }
 
-/// Whether every facet of the applicability holds of the element.
-fn is_applicable(spec: &Specification, elem: InstId, snapshot: &Snapshot) -> bool
-    ensures { result ≡ is_applicable spec.now elem snapshot.now.model }
+/// Whether every facet holds of the instance.
+fn is_applicable(
+    alloc: Global,
+    facets: &[Facet],
+    instance: Option<&Instance>,
+) -> Result<bool, Memory>
+    ensures { IfOk result (λ holds. holds ≡ list_all (holds_of (option_copied instance.entry)) facets.now) }
 {
-    for facet in spec.applicability.as_slice() {
-        if !facet_holds(facet, elem, snapshot) {
-            return false;
+    for facet in facets {
+        if !facet_holds(alloc, facet, instance)? {
+            return Ok(false);
         }
     }
-    true
+    Ok(true)
 }
 
-/// The numbers, from 1, of the requirements that the element doesn't meet.
+/// The numbers, from 1, of the requirements that the instance doesn't meet.
 fn unmet(
     alloc: Global,
-    requirements: &[Requirement],
-    elem: InstId,
-    snapshot: &Snapshot,
+    spec: &Specification,
+    instance: Option<&Instance>,
 ) -> Result<Numbers, Memory>
-    requires { length requirements.now < 2 ^ 32 - 1 }
-    ensures { IfOk result (λ numbers. numbers ≡ unmet_from 1 requirements.now elem snapshot.now.model) }
+    requires { is_plain_specification spec.now ≡ true }
+    ensures { IfOk result (λ numbers. numbers ≡ numbers_of_false 1 (map (meets (option_copied instance.entry)) spec.now.requirements)) }
 {
+    let requirements = spec.requirements.as_slice();
     let mut numbers = Vec::new(alloc);
     for at in 0..requirements.len() {
-        if !is_met(&requirements[at], elem, snapshot) {
+        if !is_met(alloc, &requirements[at], instance)? {
             numbers.push(at as u32 + 1)?;
         }
     }
     Ok(Numbers::from_vec(numbers))
 }
 
-/// Whether the element meets the requirement.
-fn is_met(requirement: &Requirement, elem: InstId, snapshot: &Snapshot) -> bool
-    ensures { result ≡ requirement_met requirement.now elem snapshot.now.model }
+/// Whether the instance meets the requirement.
+fn is_met(
+    alloc: Global,
+    requirement: &Requirement,
+    instance: Option<&Instance>,
+) -> Result<bool, Memory>
+    ensures { IfOk result (λ met. met ≡ meets (option_copied instance.entry) requirement.now) }
 {
-    let holds = facet_holds(&requirement.facet, elem, snapshot);
+    let holds = facet_holds(alloc, &requirement.facet, instance)?;
     match requirement.cardinality {
-        Cardinality::Required => holds,
-        Cardinality::Prohibited => !holds,
-        Cardinality::Optional => true,
+        Cardinality::Required => Ok(holds),
+        Cardinality::Prohibited => Ok(!holds),
+        Cardinality::Optional => Ok(!holds || holds),
     }
 }
 
-/// Whether the facet holds of the element. Entity facets with a simple name are built so far.
-fn facet_holds(facet: &Facet, elem: InstId, snapshot: &Snapshot) -> bool
-    ensures { result ≡ facet_holds facet.now elem snapshot.now.model }
+/// Whether the facet holds of the instance.
+fn facet_holds(alloc: Global, facet: &Facet, instance: Option<&Instance>) -> Result<bool, Memory>
+    ensures { IfOk result (λ holds. holds ≡ holds_of (option_copied instance.entry) facet.now) }
 {
     match facet {
-        Facet::Entity(facet) => match snapshot.instance(elem) {
-            Some(instance) => entity_matches(facet, instance),
-            None => false,
+        Facet::Entity(facet) => match instance {
+            Some(instance) => facet.name.admits_text(alloc, instance.entity.as_str()),
+            None => Ok(false),
         },
-        _ => false,
+        _ => Ok(false),
     }
-}
-
-/// Whether the entity facet matches the instance.
-fn entity_matches(facet: &EntityFacet, instance: &Instance) -> bool
-    ensures { result ≡ entity_matches facet.now instance.now }
-{
-    facet.predefined.is_none() && facet.name.admits_text(&instance.entity)
 }

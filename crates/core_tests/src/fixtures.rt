@@ -1,80 +1,171 @@
-ghost use Rattle.std.specs.Prelude.{◌≡◌, length, IfOk};
+ghost use Rattle.std.specs.Prelude.{◌≡◌, true, None, length, IfOk};
 ghost use Rattle.audit_model.specs.Models.{HasDistinctIds};
-ghost use Rattle.audit_model.specs.Pairs.{NumberedFrom};
-ghost use Rattle.audit_run.specs.Holding.{HaveFewRequirements};
+ghost use Rattle.audit_model.specs.Specifications.{AreBuilt, AreSpecifications, IsSpecification, is_built_specification};
 
 use audit_model::{
-    Cardinality, EntityFacet, Facet, Facets, Occurs, Requirement, Requirements, Restriction,
-    Specification,
+    Cardinality, EntityFacet, Facet, Facets, Occurs, Requirement, Requirements, Specification,
 };
-use ifc_base::{InstId, Instance, Instances, Memory, Name, Value, ValueNode, Values};
+use ifc_base::{EntityDecl, EntityDecls, Instance, Instances, Memory, Name, Names, TypeDecls};
+use p21_read::{P21File, read_instance};
+use restrictions::Restriction;
+use schema_table::SchemaTable;
 use std::alloc::Global;
+use std::test::Fail;
 
-/// A text, or `$` where it is empty.
-fn value(alloc: Global, text: &str) -> Result<Value, Memory> {
-    if text.is_empty() {
-        return Ok(Value {
-            node: ValueNode::Absent,
-        });
+/// An entity: its name, its supertype or nothing, whether it is abstract, its own attributes, and those
+/// that it redeclares as derived.
+type Entity = (
+    &'static str,
+    &'static str,
+    bool,
+    &'static [&'static str],
+    &'static [&'static str],
+);
+
+/// A few entities of IFC 4 (ISO 16739-1).
+const ENTITIES: [Entity; 6] = [
+    (
+        "IFCROOT",
+        "",
+        true,
+        &["GlobalId", "OwnerHistory", "Name", "Description"],
+        &[],
+    ),
+    (
+        "IFCWALL",
+        "IFCROOT",
+        false,
+        &[
+            "ObjectType",
+            "ObjectPlacement",
+            "Representation",
+            "Tag",
+            "PredefinedType",
+        ],
+        &[],
+    ),
+    ("IFCGROUP", "IFCROOT", false, &["ObjectType"], &[]),
+    (
+        "IFCRELDEFINESBYTYPE",
+        "IFCROOT",
+        false,
+        &["RelatedObjects", "RelatingType"],
+        &[],
+    ),
+    ("IFCNAMEDUNIT", "", true, &["Dimensions", "UnitType"], &[]),
+    (
+        "IFCSIUNIT",
+        "IFCNAMEDUNIT",
+        false,
+        &["Prefix", "Name"],
+        &["Dimensions"],
+    ),
+];
+
+fn names(alloc: Global, texts: &[&str]) -> Result<Names, Memory> {
+    let mut names = Vec::new(alloc);
+    for text in texts {
+        names.push(Name::from_str(alloc, *text)?)?;
     }
-    let text = Name::from_str(alloc, text)?;
-    Ok(Value {
-        node: ValueNode::Text(text),
+    Ok(Names::from_vec(names))
+}
+
+fn entity(alloc: Global, entity: &Entity) -> Result<EntityDecl, Memory> {
+    let (name, parent, is_abstract, own, derived) = entity;
+    let parent = match *parent {
+        "" => None,
+        parent => Some(Name::from_str(alloc, parent)?),
+    };
+    Ok(EntityDecl {
+        name: Name::from_str(alloc, *name)?,
+        parent,
+        is_abstract: *is_abstract,
+        own: names(alloc, *own)?,
+        derived: names(alloc, *derived)?,
     })
 }
 
-/// `#number=IFCWALL('global',$,'name',$,$,$,$,$,$);`
-pub fn wall(alloc: Global, number: u32, global: &str, name: &str) -> Result<Instance, Memory>
-    ensures { IfOk result (λ wall. wall.id ≡ number) }
-{
-    let id = InstId::new(number).ok_or(Memory)?;
-    let entity = Name::from_str(alloc, "IFCWALL")?;
-    let mut params = Vec::new(alloc);
-    for text in [global, "", name, "", "", "", "", "", ""] {
-        params.push(value(alloc, text)?)?;
+/// The schema of these entities.
+pub fn schema(alloc: Global) -> Result<SchemaTable, Fail> {
+    let mut entities = Vec::new(alloc);
+    for declared in &ENTITIES {
+        entities.push(entity(alloc, declared)?)?;
     }
-    Ok(Instance {
-        id,
-        entity,
-        params: Values::from_vec(params),
-    })
+    let entities = EntityDecls::from_vec(entities);
+    Ok(SchemaTable::build(alloc, entities, TypeDecls::new(alloc))?)
 }
 
-/// `#10=IFCWALL('a',$,'W01',$,$,$,$,$,$);` and `#11=IFCWALL('b',$,'W02',$,$,$,$,$,$);`
-pub fn walls(alloc: Global) -> Result<Instances, Memory>
-    ensures distinct { IfOk result HasDistinctIds }
-    ensures two { IfOk result (λ walls. length walls ≡ 2) }
+/// The entity facet of this one name.
+fn is_entity(alloc: Global, name: &str) -> Result<EntityFacet, Memory>
+    ensures { IfOk result (λ facet. facet.predefined ≡ None) }
 {
-    let walls = vec![in alloc; wall(alloc, 11, "b", "W02")?, wall(alloc, 10, "a", "W01")?]?;
-    Ok(Instances::from_vec(walls))
-}
-
-/// The entity facet of walls.
-fn is_wall(alloc: Global) -> Result<Facet, Memory> {
-    let name = Name::from_str(alloc, "IFCWALL")?;
-    Ok(Facet::Entity(EntityFacet {
+    let name = Name::from_str(alloc, name)?;
+    Ok(EntityFacet {
         name: Restriction::simple(name),
         predefined: None,
-    }))
+    })
 }
 
-/// The specification that walls are walls.
-pub fn wall_specifications(alloc: Global) -> Result<Vec<Specification>, Memory>
-    ensures numbered { IfOk result (λ specs. NumberedFrom 1 specs.items) }
-    ensures few { IfOk result (λ specs. HaveFewRequirements specs.items) }
+/// The specification of this number, that instances of the entity `found` are instances of `wanted`.
+fn specification(
+    alloc: Global,
+    number: u32,
+    found: &str,
+    wanted: &str,
+) -> Result<Specification, Memory>
+    ensures number { IfOk result (λ spec. spec.number ≡ number) }
+    ensures form { IfOk result IsSpecification }
+    ensures built { IfOk result (λ spec. is_built_specification spec ≡ true) }
 {
-    let applicability = Facets::from_vec(vec![in alloc; is_wall(alloc)?]?);
+    let facet = Facet::Entity(is_entity(alloc, found)?);
+    let applicability = Facets::from_vec(vec![in alloc; facet]?);
     let requirement = Requirement {
-        facet: is_wall(alloc)?,
+        facet: Facet::Entity(is_entity(alloc, wanted)?),
         cardinality: Cardinality::Required,
     };
     let requirements = Requirements::from_vec(vec![in alloc; requirement]?);
-    let specification = Specification {
-        number: 1,
+    Ok(Specification {
+        number,
         for_model: true,
         occurs: Occurs::Optional,
         applicability,
         requirements,
-    };
-    Ok(vec![in alloc; specification]?)
+    })
+}
+
+/// That walls are walls, and that groups are walls.
+pub fn specifications(alloc: Global) -> Result<Vec<Specification>, Memory>
+    ensures form { IfOk result (λ specs. AreSpecifications specs.items) }
+    ensures built { IfOk result (λ specs. AreBuilt specs.items) }
+{
+    let walls = specification(alloc, 1, "IFCWALL", "IFCWALL")?;
+    let groups = specification(alloc, 2, "IFCGROUP", "IFCWALL")?;
+    Ok(vec![in alloc; walls, groups]?)
+}
+
+/// The instance of this id that the text is (ISO 10303-21).
+fn numbered(alloc: Global, number: u32, text: &str) -> Result<Instance, Fail>
+    ensures { IfOk result (λ instance. instance.id ≡ number) }
+{
+    let instance = read_instance(alloc, text.as_bytes())?;
+    if instance.id.get() == number {
+        Ok(instance)
+    } else {
+        Err("another id".into())
+    }
+}
+
+/// The file of this schema with the instances 10 and 11, of which 11 stands first.
+pub fn file(alloc: Global, schema_id: &str, ten: &str, eleven: &str) -> Result<P21File, Fail>
+    ensures distinct { IfOk result (λ file. HasDistinctIds file.instances) }
+    ensures two { IfOk result (λ file. length file.instances ≡ 2) }
+{
+    let schema_id = Name::from_str(alloc, schema_id)?;
+    let ten = numbered(alloc, 10, ten)?;
+    let eleven = numbered(alloc, 11, eleven)?;
+    let instances = vec![in alloc; eleven, ten]?;
+    Ok(P21File {
+        schema_id,
+        instances: Instances::from_vec(instances),
+    })
 }

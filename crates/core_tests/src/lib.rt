@@ -1,12 +1,15 @@
-//! Tests of the core of an audit: its calls one by one, and runs of calls by several actors, over a model
-//! of two walls.
+//! Tests of the core of an audit: which models it refuses, and what it answers to calls of several actors.
 #![tactic(auto)]
 
 #[cfg(test)]
+mod faults;
+#[cfg(test)]
 mod fixtures;
 #[cfg(test)]
-mod runs;
+mod prepared;
 #[cfg(test)]
-mod steps;
+mod rows;
+#[cfg(test)]
+mod runs;
 #[cfg(test)]
 mod views;

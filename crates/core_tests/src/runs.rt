@@ -1,149 +1,361 @@
-use crate::fixtures::{wall, wall_specifications, walls};
+ghost use Rattle.std.specs.Prelude.{◌≡◌, ◌≤◌, length};
+ghost use Rattle.audit_model.specs.Models.{HasDistinctIds};
+
+use crate::fixtures::{file, schema, specifications};
+use crate::rows::Change::{Add, Remove, Set};
+use crate::rows::Do::{Begin, Commit, Give, Publish, Return, Take};
+use crate::rows::{Row, acts, reply_text};
 use audit_core::{Core, CoreJournal};
-use audit_model::{CommitRefusal, Edit, EditFault, Edits, Limits, Pair, Reply};
-use audit_run::{Act, Asked, Hands, PlainEvaluator, give_all_back, run};
-use ifc_base::{InstId, Key, Memory};
+use audit_model::{Limits, Reply, ReportText, StepRec};
+use audit_run::{Asked, Hands, PlainEvaluator, give_all_back, run};
+use p21_read::P21File;
 use std::alloc::Global;
 use std::process::Abort;
 use std::test::Fail;
 
-/// A commit of these edits.
-fn commit(edits: Vec<Edit>) -> Act {
-    Act::Commit(Edits::from_vec(edits))
-}
-
-/// Three editors, two workers and the caller of the program.
-fn calls(alloc: Global, id: InstId) -> Result<Vec<Asked>, Memory> {
-    let renamed = wall(alloc, 10, "a", "W03")?;
-    let new = wall(alloc, 12, "c", "W04")?;
-    let missing = InstId::new(13).ok_or(Memory)?;
-    let calls = [
-        (17, Act::Take),
-        (1, Act::Begin),
-        (
-            1,
-            commit(vec![in alloc; Edit::Remove(id), Edit::Add(renamed)]?),
-        ),
-        (17, Act::Give),
-        (17, Act::Take),
-        (18, Act::Take),
-        (17, Act::Give),
-        (0, Act::Publish),
-        (18, Act::Return),
-        (2, Act::Begin),
-        (2, commit(vec![in alloc; Edit::Remove(missing)]?)),
-        (18, Act::Take),
-        (18, Act::Give),
-        (18, Act::Take),
-        (0, Act::Publish),
-        (18, Act::Return),
-        (2, commit(Vec::new(alloc))),
-        (3, Act::Begin),
-        (3, commit(vec![in alloc; Edit::Remove(id)]?)),
-        (17, Act::Take),
-        (0, Act::Publish),
-        (1, Act::Begin),
-        (1, commit(vec![in alloc; Edit::Add(new)]?)),
-        (17, Act::Take),
-    ];
-    let mut asked = Vec::new(alloc);
-    for (actor, act) in calls {
-        asked.push(Asked { actor, act })?;
-    }
-    Ok(asked)
-}
-
-/// The claim of this number, of this element at this revision.
-fn claimed(number: u64, elem: InstId, revision: u32) -> Reply {
-    let pair = Pair { spec: 1, elem };
-    Reply::Claimed {
-        number,
-        pair,
-        revision,
-    }
-}
-
-/// The reply to a publish while the pair of this element is unsettled.
-fn pending(elem: InstId) -> Reply {
-    Reply::Pending(Pair { spec: 1, elem })
-}
-
-/// The refusal of a commit whose first edit is to remove this instance, which isn't there.
-fn no_instance(id: InstId) -> Reply {
-    let fault = EditFault::NoInstance { id };
-    Reply::Refused(CommitRefusal::Edit { number: 1, fault })
-}
-
-/// Each actor with what it was answered. The two walls are `ten` and `eleven`.
-fn answers(alloc: Global, ten: InstId, eleven: InstId) -> Result<Vec<(u32, Reply)>, Memory> {
-    let new = InstId::new(12).ok_or(Memory)?;
-    let missing = InstId::new(13).ok_or(Memory)?;
-    let stale = Reply::Stale {
-        key: Key::Inst(ten),
-        revision: 1,
+/// The journal and the reports of the acts over the model of the file.
+fn played(
+    alloc: Global,
+    file: P21File,
+    limits: Limits,
+    acts: Vec<Asked>,
+) -> Result<(CoreJournal, Vec<ReportText>), Fail>
+    requires distinct { HasDistinctIds file.instances }
+    requires few { length file.instances ≤ limits.instances }
+{
+    let schema = schema(alloc)?;
+    let specs = specifications(alloc)?;
+    let evaluator = PlainEvaluator::new(&schema, &specs);
+    let Ok(mut core) = Core::new(alloc, &schema, &specs, file, limits) else {
+        return Err("the model is refused".into());
     };
-    Ok(vec![in alloc;
-        (17, claimed(1, ten, 0)),
-        (1, Reply::Began { revision: 0 }),
-        (1, Reply::Accepted { revision: 1 }),
-        (17, stale),
-        (17, claimed(2, ten, 1)),
-        (18, claimed(3, eleven, 1)),
-        (17, Reply::Used),
-        (0, pending(eleven)),
-        (18, Reply::Back),
-        (2, Reply::Began { revision: 1 }),
-        (2, no_instance(missing)),
-        (18, claimed(4, eleven, 1)),
-        (18, Reply::Used),
-        (18, Reply::Idle),
-        (0, Reply::Report { revision: 1 }),
-        (3, Reply::Began { revision: 1 }),
-        (3, Reply::Accepted { revision: 2 }),
-        (17, Reply::Idle),
-        (0, Reply::Report { revision: 2 }),
-        (1, Reply::Began { revision: 2 }),
-        (1, Reply::Accepted { revision: 3 }),
-        (17, claimed(5, new, 3)),
-        (17, Reply::Back),
-    ]?)
+    let mut hands = Hands::new(alloc);
+    let texts = run(alloc, &mut core, &evaluator, &mut hands, acts);
+    give_all_back(&mut core, hands);
+    Ok((core.into_journal(), texts))
 }
 
-fn expect_journal<R: Abort>(rt: &R, journal: &CoreJournal, answers: &[(u32, Reply)]) {
-    let steps = journal.steps().as_slice();
-    assert_eq!(rt; steps.len(), answers.len());
-    for (step, (actor, reply)) in steps.iter().zip(answers) {
-        assert_eq!(rt; step.actor, *actor);
-        assert!(rt; step.reply == *reply);
+/// The most steps and revisions, the instances 10 and 11, the calls, and the reports that are published.
+type Case = (
+    u64,
+    u32,
+    [&'static str; 2],
+    &'static [Row],
+    &'static [&'static str],
+);
+
+const WALLS: [&str; 2] = [
+    "#10=IFCWALL('a',$,'W01',$,$,$,$,$,$);",
+    "#11=IFCWALL('b',$,'W02',$,$,$,$,$,$);",
+];
+
+/// The first instance refers to an instance that is missing.
+const DANGLING: [&str; 2] = [
+    "#10=IFCRELDEFINESBYTYPE('t',$,$,$,(#11),#99);",
+    "#11=IFCWALL('b',$,'W02',$,$,$,$,$,$);",
+];
+
+/// Calls for which there is no room add no entry, and a claim keeps room for its end.
+const FULL: [Row; 6] = [
+    (17, Take, ""),
+    (1, Begin, "began 0"),
+    (1, Begin, ""),
+    (1, Commit(&[]), ""),
+    (0, Publish, ""),
+    (17, Take, ""),
+];
+
+const FULL_BUT_ENDS: [Row; 6] = [
+    (17, Take, "claim 1: 1 #10 at 0"),
+    (18, Take, ""),
+    (1, Begin, "began 0"),
+    (1, Begin, ""),
+    (17, Give, "used"),
+    (0, Publish, ""),
+];
+
+/// The least unsettled pair that isn't out is claimed.
+const CLAIMS: [Row; 8] = [
+    (17, Take, "claim 1: 1 #10 at 0"),
+    (17, Return, "back"),
+    (17, Take, "claim 2: 1 #10 at 0"),
+    (18, Take, "claim 3: 1 #11 at 0"),
+    (18, Take, "idle"),
+    (18, Give, "used"),
+    (18, Give, ""),
+    (0, Publish, "pending 1 #10"),
+];
+
+/// What is changed has to be weighed again; the rest stays settled.
+const SETTLED: [Row; 24] = [
+    (0, Publish, "pending 1 #10"),
+    (17, Take, "claim 1: 1 #10 at 0"),
+    (17, Give, "used"),
+    (17, Take, "claim 2: 1 #11 at 0"),
+    (17, Give, "used"),
+    (17, Take, "idle"),
+    (0, Publish, "report 0"),
+    (1, Begin, "began 0"),
+    (1, Commit(&[Set(10, "Name", "$")]), "made 1"),
+    (0, Publish, "pending 1 #10"),
+    (17, Take, "claim 3: 1 #10 at 1"),
+    (1, Begin, "began 1"),
+    (
+        1,
+        Commit(&[Add("#12=IFCGROUP('g',$,$,$,$);"), Remove(11)]),
+        "made 2",
+    ),
+    (17, Give, "used"),
+    (0, Publish, "pending 2 #12"),
+    (18, Take, "claim 4: 2 #12 at 2"),
+    (1, Begin, "began 2"),
+    (
+        1,
+        Commit(&[Remove(10), Add("#10=IFCGROUP('a',$,$,$,$);")]),
+        "made 3",
+    ),
+    (18, Give, "used"),
+    (0, Publish, "pending 2 #10"),
+    (18, Take, "claim 5: 2 #10 at 3"),
+    (18, Give, "used"),
+    (0, Publish, "report 3"),
+    (1, Commit(&[]), ""),
+];
+
+/// A finding is stale where a commit after its claim changed what it needs, even back to what it was.
+const STALE: [Row; 10] = [
+    (17, Take, "claim 1: 1 #10 at 0"),
+    (2, Begin, "began 0"),
+    (2, Commit(&[Remove(10)]), "made 1"),
+    (2, Begin, "began 1"),
+    (
+        2,
+        Commit(&[Add("#10=IFCWALL('a',$,'W01',$,$,$,$,$,$);")]),
+        "made 2",
+    ),
+    (18, Take, "claim 2: 1 #11 at 2"),
+    (17, Give, "stale #10 2"),
+    (18, Give, "used"),
+    (17, Take, "claim 3: 1 #10 at 2"),
+    (17, Return, "back"),
+];
+
+/// Each edit is refused for the first cause that it has, and the first such edit refuses the commit.
+const REFUSALS: [Row; 46] = [
+    (2, Begin, "began 0"),
+    (1, Begin, "began 0"),
+    (1, Commit(&[Set(11, "Name", "'A'")]), "made 1"),
+    (
+        2,
+        Commit(&[Add("#11=IFCGROUP('g');")]),
+        "refused 1 conflict #11 1",
+    ),
+    (3, Begin, "began 1"),
+    (1, Begin, "began 1"),
+    (
+        1,
+        Commit(&[
+            Remove(11),
+            Add("#12=IFCGROUP('g',$,$,$,$);"),
+            Set(12, "Name", "'X'"),
+        ]),
+        "made 2",
+    ),
+    (
+        3,
+        Commit(&[Set(11, "Colour", "*")]),
+        "refused 1 conflict #11 2",
+    ),
+    (1, Begin, "began 2"),
+    (
+        1,
+        Commit(&[Add("#12=IFCGROUP('g');")]),
+        "refused 1 taken #12",
+    ),
+    (1, Begin, "began 2"),
+    (
+        1,
+        Commit(&[Set(13, "Colour", "*")]),
+        "refused 1 missing #13",
+    ),
+    (1, Begin, "began 2"),
+    (1, Commit(&[Remove(11)]), "refused 1 missing #11"),
+    (1, Begin, "began 2"),
+    (
+        1,
+        Commit(&[Set(10, "Colour", "*")]),
+        "refused 1 attribute #10 Colour",
+    ),
+    (1, Begin, "began 2"),
+    (
+        1,
+        Commit(&[Set(10, "Name", "*")]),
+        "refused 1 schema #10 derived 3",
+    ),
+    (1, Begin, "began 2"),
+    (
+        1,
+        Commit(&[Add("#20=IFCROOT('g',$,$,$);")]),
+        "refused 1 schema #20 abstract IFCROOT",
+    ),
+    (1, Begin, "began 2"),
+    (
+        1,
+        Commit(&[Add("#20=IFCDOOR();")]),
+        "refused 1 schema #20 unknown IFCDOOR",
+    ),
+    (1, Begin, "began 2"),
+    (
+        1,
+        Commit(&[
+            Add("#20=IFCGROUP('g',$,$,$,$);"),
+            Set(10, "Name", "'X'"),
+            Set(10, "Colour", "'red'"),
+            Remove(13),
+        ]),
+        "refused 3 attribute #10 Colour",
+    ),
+    (1, Begin, "began 2"),
+    (
+        1,
+        Commit(&[Add("#13=IFCGROUP('g',$,$,$,$);"), Add("#14=IFCGROUP('g');")]),
+        "refused 2 schema #14 count 1 5",
+    ),
+    (1, Begin, "began 2"),
+    (
+        1,
+        Commit(&[
+            Add("#13=IFCGROUP('g',$,$,$,$);"),
+            Add("#14=IFCRELDEFINESBYTYPE('t',$,$,$,(#10),#99);"),
+        ]),
+        "refused 2 instances",
+    ),
+    (1, Begin, "began 2"),
+    (
+        1,
+        Commit(&[
+            Add("#13=IFCRELDEFINESBYTYPE('t',$,$,$,(#98),#97);"),
+            Set(12, "Name", "#96"),
+        ]),
+        "refused dangling #12 #96",
+    ),
+    (1, Begin, "began 2"),
+    (
+        1,
+        Commit(&[Add("#13=IFCRELDEFINESBYTYPE('t',$,$,$,(#98,#10),#97);")]),
+        "refused dangling #13 #97",
+    ),
+    (1, Begin, "began 2"),
+    (
+        1,
+        Commit(&[Add("#13=IFCRELDEFINESBYTYPE('t',$,$,$,(#10),#12);")]),
+        "made 3",
+    ),
+    (1, Begin, "began 3"),
+    (1, Commit(&[Remove(10)]), "refused dangling #13 #10"),
+    (1, Begin, "began 3"),
+    (1, Commit(&[Remove(13), Remove(10)]), "made 4"),
+    (4, Begin, "began 4"),
+    (1, Begin, "began 4"),
+    (1, Commit(&[]), "made 5"),
+    (4, Commit(&[Remove(13)]), "refused revisions"),
+    (1, Begin, "began 5"),
+    (1, Commit(&[]), "refused revisions"),
+    (1, Commit(&[]), ""),
+    (0, Publish, "pending 2 #12"),
+];
+
+/// A reference that dangled before is no reason to refuse; a new one is.
+const DANGLED: [Row; 6] = [
+    (1, Begin, "began 0"),
+    (1, Commit(&[Set(10, "Name", "'T'")]), "made 1"),
+    (1, Begin, "began 1"),
+    (
+        1,
+        Commit(&[Set(10, "RelatingType", "#98")]),
+        "refused dangling #10 #98",
+    ),
+    (1, Begin, "began 1"),
+    (1, Commit(&[Remove(11)]), "refused dangling #10 #11"),
+];
+
+const CASES: [Case; 7] = [
+    (1, 2, WALLS, &FULL, &[]),
+    (3, 2, WALLS, &FULL_BUT_ENDS, &[]),
+    (20, 2, WALLS, &CLAIMS, &[]),
+    (
+        50,
+        3,
+        WALLS,
+        &SETTLED,
+        &[
+            "report 0\nspec 1 pass applicable 2 failed 0\nspec 2 pass applicable 0 failed 0\nend pass\n",
+            "report 3\nspec 1 pass applicable 0 failed 0\nspec 2 fail applicable 2 failed 2\nfail #10 1\nfail #12 1\nend fail\n",
+        ],
+    ),
+    (50, 9, WALLS, &STALE, &[]),
+    (90, 5, WALLS, &REFUSALS, &[]),
+    (20, 2, DANGLING, &DANGLED, &[]),
+];
+
+/// The entry at this place is the reply to the actor, in these words.
+fn expect_entry<R: Abort>(
+    rt: &R,
+    alloc: Global,
+    steps: &[StepRec],
+    place: usize,
+    actor: u32,
+    wanted: &str,
+) -> Result<(), Fail> {
+    match steps.get(place) {
+        Some(step) => {
+            assert_eq!(rt; step.actor, actor);
+            assert_eq!(rt; reply_text(alloc, &step.reply)?.as_str(), wanted);
+            Ok(())
+        }
+        None => Err("an entry is missing".into()),
     }
 }
 
-const LIMITS: Limits = Limits {
-    steps: 100,
-    revisions: 3,
-    instances: 2,
-};
+/// The entries are the replies of the rows that have one, in their order, and then those of claims that
+/// are given back at the end.
+fn expect_journal<R: Abort>(
+    rt: &R,
+    alloc: Global,
+    journal: &CoreJournal,
+    rows: &[Row],
+) -> Result<(), Fail> {
+    let steps = journal.steps().as_slice();
+    let mut place: usize = 0;
+    for (actor, _, wanted) in rows {
+        if !wanted.is_empty() {
+            expect_entry(rt, alloc, steps, place, *actor, *wanted)?;
+            place = place.saturating_add(1);
+        }
+    }
+    for step in steps.iter().skip(place) {
+        assert!(rt; step.reply == Reply::Back);
+    }
+    Ok(())
+}
 
 #[test]
-fn a_run_of_editors_and_workers(rt: HostRuntime) -> Result<(), Fail> {
-    let ten = InstId::new(10).ok_or(Memory)?;
-    let eleven = InstId::new(11).ok_or(Memory)?;
-    let specs = wall_specifications(rt.alloc())?;
-    let calls = calls(rt.alloc(), ten)?;
-    let answers = answers(rt.alloc(), ten, eleven)?;
-    let evaluator = PlainEvaluator::new(&specs);
-    let mut core = Core::new(rt.alloc(), &specs, walls(rt.alloc())?, LIMITS)?;
-    let mut hands = Hands::new(rt.alloc());
-    let texts = run(rt.alloc(), &mut core, &evaluator, &mut hands, calls);
-    give_all_back(&mut core, hands);
-    expect_journal(&rt, &core.into_journal(), &answers);
-    let wanted = [
-        "report 1\nspec 1 pass applicable 2 failed 0\nend pass\n",
-        "report 2\nspec 1 pass applicable 1 failed 0\nend pass\n",
-    ];
-    assert_eq!(rt; texts.len(), wanted.len());
-    for (text, wanted) in texts.iter().zip(wanted) {
-        assert_eq!(rt; text.as_slice(), wanted.as_bytes());
+fn calls_are_answered(rt: HostRuntime) -> Result<(), Fail> {
+    let alloc = rt.alloc();
+    for (steps, revisions, instances, rows, reports) in CASES {
+        let limits = Limits {
+            steps,
+            revisions,
+            instances: 3,
+        };
+        let [ten, eleven] = instances;
+        let file = file(alloc, "IFC4", ten, eleven)?;
+        let (journal, texts) = played(alloc, file, limits, acts(alloc, rows)?)?;
+        expect_journal(&rt, alloc, &journal, rows)?;
+        assert_eq!(rt; texts.len(), reports.len());
+        for (text, wanted) in texts.iter().zip(reports) {
+            assert_eq!(rt; text.as_slice(), wanted.as_bytes());
+        }
     }
     Ok(())
 }

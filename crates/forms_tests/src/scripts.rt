@@ -5,7 +5,7 @@ use std::alloc::Global;
 use std::test::Fail;
 
 /// What is taken.
-const TAKEN: [&str; 14] = [
+const TAKEN: [&str; 18] = [
     "sync",
     "sync\n",
     "sync\r\n",
@@ -16,6 +16,10 @@ const TAKEN: [&str; 14] = [
     "take\nopen\ncommit\ngive\nsync\n",
     "open\nadd #20=IFCGROUP('g',$,$,$,$)\ncommit\nsync\n",
     "open\r\nadd #20=IFCGROUP('g',$,$,$,$);\r\ncommit\r\nsync\r\n",
+    "open\nadd  #042 = IfcGroup ( ) /* ; */\ncommit\nsync\n",
+    "open\nadd #1=A(#2,(#1,B(*)),-1.5E3,.T.,\"0F\");\ncommit\nsync\n",
+    "open\nadd #1=A('a b;');/* behind */\ncommit\nsync\n",
+    "open\nadd #2147483647=A(';')\ncommit\nsync\n",
     "open\nremove #2147483647\ncommit\nsync",
     "open\ncommit\nopen\ncommit\nsync\n",
     "work 1\nsync\n",
@@ -23,7 +27,7 @@ const TAKEN: [&str; 14] = [
 ];
 
 /// What is refused, and at which line.
-const REFUSED: [(&str, u32); 47] = [
+const REFUSED: [(&str, u32); 51] = [
     ("", 1),
     ("\n", 2),
     ("\r\n\n", 3),
@@ -62,7 +66,11 @@ const REFUSED: [(&str, u32); 47] = [
     ("open\nremove #1;\n", 2),
     ("open\nadd #1=A($\n", 2),
     ("open\nadd #1=A($);;\n", 2),
-    ("open\nadd  #1=A($);\n", 2),
+    ("open\nadd #1=A('a)\n", 2),
+    ("open\nadd #0=A($);\n", 2),
+    ("open\nadd #1=A(#0);\n", 2),
+    ("open\nadd #1=A($)/*\n", 2),
+    ("open\nadd\t#1=A($);\n", 2),
     ("open\nset #1 NAME $\n", 2),
     ("editor 2\nsync\n", 1),
     ("sync \n", 1),

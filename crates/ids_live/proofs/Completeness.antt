@@ -1,66 +1,21 @@
 -- Which status a run over told inputs has.
-use Rattle.std.proofs.Common.{◌≡◌, ℕ, zero, suc, ◌<◌, List, [], ◌∷◌, length, true, false, Option, Result, Ok, Err, refl, ap, sym, ◌∙◌, arith, subst}
-use Rattle.std.specs.Prelude.{Some, None, IfSome, IsOk, IsErr, MatchResult}
-use Rattle.ifc_base.specs.declared.value.Instance.{Instance}
+use Rattle.std.proofs.Common.{◌≡◌, ℕ, zero, suc, ◌<◌, List, [], ◌∷◌, length, true, false, Option, Result, Ok, Err, refl, sym, ◌∙◌, arith}
+use Rattle.std.specs.Prelude.{Some, None, IfSome, IsErr, MatchResult}
 use Rattle.shelf_io.specs.Causes.{Rose}
 use Rattle.shelf_io.specs.Pieces.{Files}
 use Rattle.shelf_io.specs.Reads.{Read}
 use Rattle.std.proofs.lemmas.Bool.{true≢false}
-use Rattle.audit_model.specs.declared.script.Phase.{Phase}
-use Rattle.audit_model.specs.declared.specification.Specification.{Specification}
 use Rattle.ids_live.specs.declared.ending.Ended.{Ended}
 use Rattle.ids_live.specs.declared.refused.Refused.{Refused}
-use Rattle.ids_live.specs.declared.load.Loaded.{Loaded}
-use Rattle.ids_live.specs.Inputs.{Inputs, AreHeld, loaded_of, first_refusal, limit, model_limit, schema_read, specs_read, model_read, script_read}
-use Rattle.ids_live.specs.Reading.{AreInputs}
+use Rattle.ids_live.specs.Forms.{Loaded, loaded_of}
+use Rattle.ids_live.specs.Inputs.{Inputs}
+use Rattle.ids_live.specs.Reading.{AreHeld, AreInputs}
 use Rattle.ids_live.specs.Run.{At, IsRun, IsShelfAfter, IsSinkAfter}
 use Rattle.ids_live.specs.Complete.{IsComplete, IsPlayable, IsOverfull, IsSure, wanted}
 use Rattle.ids_live.specs.Steps.{meets_full}
 use Rattle.ids_live.specs.Told.{AreTold, AreSteady, IsUnsteady}
 use Rattle.ids_live.specs.Words.{Command}
-use Rattle.ids_live.proofs.Telling.{told_is}
-
--- loading goes up to the first refusal
-first_same : (a : Result (Unit {0}) Refused) (b b' : Result (List Specification) Refused) (c c' : Result (List Instance) Refused) (d d' : Result (List Phase) Refused)
-    → (IsOk a → b ≡ b') → (IsOk a → IsOk b → c ≡ c') → (IsOk a → IsOk b → IsOk c → d ≡ d') → first_refusal a b c d ≡ first_refusal a b' c' d'
-first_same (Err e) b b' c c' d d' p q r = refl
-first_same (Ok x) (Err e) b' c c' d d' p q r = rw (← p refl) refl
-first_same (Ok x) (Ok y) b' (Err e) c' d d' p q r = rw (← p refl, ← q refl refl) refl
-first_same (Ok x) (Ok y) b' (Ok z) c' d d' p q r = rw (← p refl, ← q refl refl, ← r refl refl refl) refl
-
--- each input that is held, up to the first that is refused, is the one that is told
-specs_same : (held : Option Files) (command : Command) (i t : Inputs) → AreHeld held command i → AreTold held command t → IsOk (schema_read i.schema) → i.specs ≡ t.specs
-specs_same held command i t h e a =
-    let schema : i.schema ≡ t.schema = told_is held command.schema limit i.schema t.schema h.schema e.schema in
-    told_is held command.specs limit i.specs t.specs (h.specs a) (e.specs (subst (λ (s : Option (List ℕ)). IsOk (schema_read s)) schema a))
-
-model_same : (held : Option Files) (command : Command) (i t : Inputs) → AreHeld held command i → AreTold held command t → IsOk (schema_read i.schema) → IsOk (specs_read i.specs) → i.model ≡ t.model
-model_same held command i t h e a b =
-    let schema : i.schema ≡ t.schema = told_is held command.schema limit i.schema t.schema h.schema e.schema in
-    told_is held command.model model_limit i.model t.model (h.model a b) (e.model (subst (λ (s : Option (List ℕ)). IsOk (schema_read s)) schema a)
-    (subst (λ (s : Option (List ℕ)). IsOk (specs_read s)) (specs_same held command i t h e a) b))
-
-script_same : (held : Option Files) (command : Command) (i t : Inputs) → AreHeld held command i → AreTold held command t → IsOk (schema_read i.schema) → IsOk (specs_read i.specs) → IsOk (model_read i.model) → i.script ≡ t.script
-script_same held command i t h e a b d =
-    let schema : i.schema ≡ t.schema = told_is held command.schema limit i.schema t.schema h.schema e.schema in
-    told_is held command.script limit i.script t.script (h.script a b d) (e.script (subst (λ (s : Option (List ℕ)). IsOk (schema_read s)) schema a)
-    (subst (λ (s : Option (List ℕ)). IsOk (specs_read s)) (specs_same held command i t h e a) b)
-    (subst (λ (s : Option (List ℕ)). IsOk (model_read s)) (model_same held command i t h e a b) d))
-
--- inputs that are held load as those that are told
-pub same_loading : (held : Option Files) (command : Command) (i t : Inputs) → AreHeld held command i → AreTold held command t → loaded_of i ≡ loaded_of t
-unfolding loaded_of
-same_loading held command i t h e =
-    first_same (schema_read i.schema) (specs_read i.specs) (specs_read t.specs) (model_read i.model) (model_read t.model) (script_read i.script) (script_read t.script)
-    (λ a. ap specs_read (specs_same held command i t h e a))
-    (λ a b. ap model_read (model_same held command i t h e a b))
-    (λ a b d. ap script_read (script_same held command i t h e a b d))
-    ∙ ap (λ (s : Option (List ℕ)). first_refusal (schema_read s) (specs_read t.specs) (model_read t.model) (script_read t.script))
-    (told_is held command.schema limit i.schema t.schema h.schema e.schema)
-
-not_both : {V E : Type 0} (r : Result V E) → IsOk r → IsErr r → ⊥
-not_both (Ok x) ok err = cc
-not_both (Err e) ok err = cc
+use Rattle.ids_live.proofs.Telling.{same_loading}
 
 refused_not_ok : (loading : Result Loaded Refused) (P : Refused → Type 0) → MatchResult loading (λ l. ⊥) P → IsErr loading
 refused_not_ok (Ok l) P h = absurd h

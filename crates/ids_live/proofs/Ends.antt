@@ -1,25 +1,23 @@
 -- The ends of a run.
-use Rattle.std.proofs.Common.{◌≡◌, ℕ, ◌+◌, reverse, List, [], ◌∷◌, ◌++◌, length, take, Bool, true, false, ◌&&◌, ◌||◌, ◌==◌, Option, Result, Ok, Err, inl, refl, ap, sym, subst, ◌∙◌, arith}
+use Rattle.std.proofs.Common.{◌≡◌, ℕ, ◌+◌, reverse, List, [], ◌∷◌, ◌++◌, length, take, Bool, true, false, ◌||◌, ◌==◌, Option, Result, Ok, Err, inl, refl, ap, sym, subst, ◌∙◌, arith}
 use Rattle.std.specs.Prelude.{⊤, ◌<◌, ◌≤◌, if◌then◌else◌, Some, None, IfSome, IfOk}
 use Rattle.std.specs.Bool.{OnTrue}
-use Rattle.std.proofs.lemmas.Bool.{eqb-true, lt-ltb}
+use Rattle.std.proofs.lemmas.Bool.{eqb-true}
 use Rattle.std.proofs.lemmas.List.{append-nil, reverse-reverse}
 use Rattle.shelf_io.specs.Causes.{Rose}
 use Rattle.shelf_io.specs.Pieces.{Files, Appended}
 use Rattle.shelf_io.specs.Reads.{Read}
-use Rattle.audit_model.specs.declared.specification.Specification.{Specification}
 use Rattle.audit_model.specs.declared.step.StepRec.{StepRec}
 use Rattle.audit_model.specs.declared.step.Given.{Given}
 use Rattle.audit_model.specs.declared.script.Act.{Act}
 use Rattle.audit_model.specs.declared.script.Phase.{Phase}
-use Rattle.audit_model.specs.History.{Ground, out}
+use Rattle.audit_model.specs.declared.step.Limits.{Limits}
+use Rattle.audit_model.specs.History.{out}
 use Rattle.audit_model.specs.Machine.{Legal}
 use Rattle.audit_model.specs.Models.{IsModel}
 use Rattle.audit_model.specs.Output.{output as text_of}
 use Rattle.audit_model.specs.ScriptLines.{free, own}
 use Rattle.audit_model.specs.Serial.{serial as history_of, meets_full as is_filled}
-use Rattle.audit_model.specs.Specifications.{HaveFewFacets}
-use Rattle.audit_run.specs.Holding.{HaveFewRequirements}
 use Rattle.serial_run.specs.declared.run.End.{End}
 use Rattle.serial_run.specs.declared.run.End.TheVariants as ending
 use Rattle.serial_run.specs.declared.run.Ran.{Ran}
@@ -29,19 +27,20 @@ use Rattle.serial_run.specs.Stopped.{StopsFrom, AreStopped, StopIsPhased, FullIs
 use Rattle.serial_run.specs.Runs.{ends_pass, script_history, IsWhole, IsUnwritten, IsFull, IsLeft, IsEndedBy, IsFinished, IsRan, IsWritten}
 use Rattle.ids_live.specs.declared.ending.Ended.{Ended}
 use Rattle.ids_live.specs.declared.refused.Refused.{Refused}
-use Rattle.ids_live.specs.declared.load.Loaded.{Loaded}
 use Rattle.ids_live.specs.Fitness.{IsFit}
 use Rattle.ids_live.specs.Lines.{refused_line}
-use Rattle.ids_live.specs.Steps.{ground_of, serial, meets_full, output, status_at}
+use Rattle.ids_live.specs.Steps.{serial, meets_full, output, status_at}
 use Rattle.ids_live.specs.Words.{Command}
-use Rattle.ids_live.specs.Inputs.{Inputs, loaded_of}
+use Rattle.ids_live.specs.Forms.{Loaded, loaded_of, limits}
+use Rattle.ids_live.specs.Inputs.{Inputs}
 use Rattle.ids_live.specs.Complete.{wanted}
+use Rattle.ids_live.specs.Course.{IsPast}
 use Rattle.ids_live.specs.Reading.{IsCut, IsPart, CameTo, AreInputs}
-use Rattle.ids_live.proofs.Reaching.{read_part}
+use Rattle.ids_live.proofs.Arriving.{no_inputs, read_part}
 use Rattle.ids_live.specs.Run.{At, IfSteps, IsEndOf, IsRun, IsSinkAfter, is_among}
 
 -- an end without a step, where no more is said at its status than that nothing was written
-legal_none : (read : Result Loaded Refused) (journal : List StepRec) → journal ≡ [] → IfOk read (λ l. Legal (ground_of l) (reverse journal))
+legal_none : (read : Result Loaded Refused) (journal : List StepRec) → journal ≡ [] → IfOk read (λ l. Legal l.ground (reverse journal))
 legal_none (Err refused) journal none = tt
 legal_none (Ok l) journal none = rw none tt
 
@@ -131,34 +130,31 @@ refused_cut refused old new e n none short written status = record {
   memory = rw status tt;
 }
 
-no_inputs : Inputs
-no_inputs = record { schema = None; specs = None; model = None; script = None }
-
 -- a run that ended while the inputs were read, for want of memory
-pub early_run : (command : Command) (held : Option Files) (before after : List Read) (old : Option (List ℕ)) (e : Ended) → e.journal ≡ [] → e.status ≡ 5 → CameTo IsPart command before after
-    → (i : Inputs) × IsRun held before after command old old e i
-early_run command held before after old e none five part = (
+pub early_run : (command : Command) (held : Option Files) (before after : List Read) (old new : Option (List ℕ)) (e : Ended) → e.journal ≡ [] → e.status ≡ 5 → new ≡ old → CameTo IsPart command before after
+    → (i : Inputs) × IsRun held before after command old new e i
+early_run command held before after old new e none five same part = (
   no_inputs,
   record {
     inputs = rw five tt;
     inputs_in_steps = rw (five, none) tt;
     cut = rw five tt;
     part = rw five part;
-    ends = early_end (loaded_of no_inputs) old old e none five refl;
+    ends = early_end (loaded_of no_inputs) old new e none five same;
   },
 )
 
 -- or for a fault of the shelf
-pub shelf_run : (command : Command) (held : Option Files) (before after : List Read) (old : Option (List ℕ)) (e : Ended) → e.status ≡ 3 → CameTo IsCut command before after
-    → (i : Inputs) × IsRun held before after command old old e i
-shelf_run command held before after old e three cut = (
+pub shelf_run : (command : Command) (held : Option Files) (before after : List Read) (old new : Option (List ℕ)) (e : Ended) → e.status ≡ 3 → CameTo IsCut command before after
+    → (i : Inputs) × IsRun held before after command old new e i
+shelf_run command held before after old new e three cut = (
   no_inputs,
   record {
     inputs = rw three tt;
     inputs_in_steps = rw three tt;
     cut = rw three cut;
     part = rw three tt;
-    ends = shelf_end (loaded_of no_inputs) old old e three;
+    ends = shelf_end (loaded_of no_inputs) old new e three;
   },
 )
 
@@ -222,17 +218,47 @@ read_run command held before after old new e loading (i, inputs, loads) among en
   },
 )
 
+on_true : (b : Bool) (P : Type 0) → (b ≡ true → P) → OnTrue b P
+on_true true P f = f refl
+on_true false P f = tt
+
+at_true : (b : Bool) (P : Type 0) → b ≡ true → OnTrue b P → P
+at_true true P is h = h
+at_true false P is h = absurd (let no : false ≡ true = is in cc)
+
+-- a run that has come past its inputs
+pub past_run : (command : Command) (held : Option Files) (before after : List Read) (old new : Option (List ℕ)) (sure : ℕ → Type 0) (e : Ended)
+    → (i : Inputs) × AreInputs held before after command i × IsPast old new sure (loaded_of i) e → is_among (0 ∷ 1 ∷ 2 ∷ 4 ∷ 5 ∷ 7 ∷ []) e.status ≡ true
+    → (i : Inputs) × IsRun held before after command old new e i
+past_run command held before after old new sure e (i, inputs, past) among = read_run command held before after old new e (loaded_of i) (i, inputs, refl) among past.ends
+
+-- and what the sink was not sure of
+pub past_unsure : (command : Command) (held : Option Files) (before after : List Read) (old new : Option (List ℕ)) (sure : ℕ → Type 0) (e : Ended)
+    → (i : Inputs) × AreInputs held before after command i × IsPast old new sure (loaded_of i) e
+    → (i : Inputs) × At (4 ∷ []) e.status (AreInputs held before after command i × (sure (length (wanted (loaded_of i))) → ⊥))
+past_unsure command held before after old new sure e (i, inputs, past) = (i, on_true (is_among (4 ∷ []) e.status) _ (λ four. (inputs, at_true (is_among (4 ∷ []) e.status) _ four past.unsure)))
+
+-- what was written before is the same
+pub written_before : (loading : Result Loaded Refused) (old was new : Option (List ℕ)) (e : Ended) → was ≡ old → IsEndOf loading was new e → IsEndOf loading old new e
+written_before loading old was new e same k = subst (λ (w : Option (List ℕ)). IsEndOf loading w new e) same k
+
+-- the inputs read so, and the run has come past them
+pub past_inputs : (command : Command) (held : Option Files) (before after : List Read) (old new : Option (List ℕ)) (sure : ℕ → Type 0) (e : Ended) (loading : Result Loaded Refused)
+    → (i : Inputs) × AreInputs held before after command i × (loaded_of i ≡ loading) → IsPast old new sure loading e
+    → (i : Inputs) × AreInputs held before after command i × IsPast old new sure (loaded_of i) e
+past_inputs command held before after old new sure e loading (i, inputs, is) past = (i, inputs, subst (λ (r : Result Loaded Refused). IsPast old new sure r e) (sym is) past)
+
 -- ---- the script was run
 
-pub serial_of : (l : Loaded) → serial l ≡ history_of (ground_of l) l.phases
+pub serial_of : (l : Loaded) → serial l ≡ history_of l.ground l.phases
 unfolding serial
 serial_of l = refl
 
-pub full_of : (l : Loaded) → meets_full l ≡ is_filled (ground_of l) l.phases
+pub full_of : (l : Loaded) → meets_full l ≡ is_filled l.ground l.phases
 unfolding meets_full
 full_of l = refl
 
-pub output_of : (l : Loaded) (journal : List StepRec) → output l journal ≡ text_of (ground_of l) journal
+pub output_of : (l : Loaded) (journal : List StepRec) → output l journal ≡ text_of l.ground journal
 unfolding output
 output_of l journal = refl
 
@@ -243,7 +269,7 @@ record IsPlayed (l : Loaded) (old new : Option (List ℕ)) (e : Ended) : Type 0 
   pub room : meets_full l ≡ false
   pub history : e.journal ≡ serial l
   pub phases : ArePhases l.phases e.journal
-  pub legal : Legal (ground_of l) (reverse e.journal)
+  pub legal : Legal l.ground (reverse e.journal)
   pub text : Appended old new (output l e.journal)
   pub verdict : e.status ≡ (if ends_pass (output l e.journal) then 0 else 1)
 
@@ -273,11 +299,11 @@ played l old new e b k status = record {
   memory = at_others (5 ∷ []) e.status b _ status refl refl;
 }
 
-is_played : (l : Loaded) (old new : Option (List ℕ)) (e : Ended) (b : Bool) → IsFit l → ScriptIsPhased → IsModel (ground_of l).first → IsWhole (ground_of l) l.phases old new e.journal → Legal (ground_of l) (reverse e.journal) → ends_pass (text_of (ground_of l) e.journal) ≡ b → e.status ≡ (if b then 0 else 1) → IsPlayed l old new e
+is_played : (l : Loaded) (old new : Option (List ℕ)) (e : Ended) (b : Bool) → IsFit l.ground l.phases → ScriptIsPhased → IsModel l.ground.first → IsWhole l.ground l.phases old new e.journal → Legal l.ground (reverse e.journal) → ends_pass (text_of l.ground e.journal) ≡ b → e.status ≡ (if b then 0 else 1) → IsPlayed l old new e
 is_played l old new e b fit law model w legal passes status = record {
   room = full_of l ∙ w.not_full;
   history = w.journal_is ∙ sym (serial_of l);
-  phases = subst (λ (es : List StepRec). ArePhases l.phases es) (sym w.journal_is) (law (ground_of l) l.phases fit.specs.numbered model fit.order w.not_full);
+  phases = subst (λ (es : List StepRec). ArePhases l.phases es) (sym w.journal_is) (law l.ground l.phases fit.specs.numbered model fit.order w.not_full);
   legal = legal;
   text = subst (λ (xs : List ℕ). Appended old new xs) (sym (output_of l e.journal)) w.text;
   verdict = status ∙ ap (λ (x : Bool). if x then 0 else 1) (sym passes ∙ sym (ap (λ (xs : List ℕ). ends_pass xs) (output_of l e.journal)));
@@ -288,7 +314,7 @@ abbrev IsStop : Loaded → List StepRec → Type 0
 IsStop l journal = AreStopped l.phases journal × (out (reverse journal) ≡ [])
 
 -- The sink failed in the text of a phase.
-unwritten_end : (l : Loaded) (old new : Option (List ℕ)) (e : Ended) → IsUnwritten (ground_of l) l.phases old new e.journal → Legal (ground_of l) (reverse e.journal) → IsStop l e.journal → e.status ≡ 4 → IsEndOf (Ok l) old new e
+unwritten_end : (l : Loaded) (old new : Option (List ℕ)) (e : Ended) → IsUnwritten l.ground l.phases old new e.journal → Legal l.ground (reverse e.journal) → IsStop l e.journal → e.status ≡ 4 → IsEndOf (Ok l) old new e
 unwritten_end l old new e u legal stop status = record {
   all_read = rw status tt;
   room = rw status tt;
@@ -307,12 +333,12 @@ unwritten_end l old new e u legal stop status = record {
 }
 
 -- A call would have been answered Full.
-full_end : (l : Loaded) (old new : Option (List ℕ)) (e : Ended) → FullIsLong → IsFull (ground_of l) l.phases old new e.journal → Legal (ground_of l) (reverse e.journal) → IsStop l e.journal → e.status ≡ 7 → IsEndOf (Ok l) old new e
-full_end l old new e law u legal stop status =
+full_end : (l : Loaded) (old new : Option (List ℕ)) (e : Ended) → l.ground.limits ≡ limits → FullIsLong → IsFull l.ground l.phases old new e.journal → Legal l.ground (reverse e.journal) → IsStop l e.journal → e.status ≡ 7 → IsEndOf (Ok l) old new e
+full_end l old new e within law u legal stop status =
     let back : reverse e.journal ≡ returned (reverse (serial l)) =
-    u.back ∙ ap (λ (h : List StepRec). returned h) (sym (ap (λ (es : List StepRec). reverse es) (serial_of l) ∙ reverse-reverse (script_history (ground_of l) l.phases))) in
+    u.back ∙ ap (λ (h : List StepRec). returned h) (sym (ap (λ (es : List StepRec). reverse es) (serial_of l) ∙ reverse-reverse (script_history l.ground l.phases))) in
     let text : Appended old new (output l e.journal) = subst (λ (xs : List ℕ). Appended old new xs) (sym (output_of l e.journal)) u.text in
-    let most : (ground_of l).limits.steps ≤ length e.journal + 1 = law (ground_of l) l.phases e.journal u.full u.back in
+    let most : 16777216 ≤ length e.journal + 1 = subst (λ (x : Limits). x.steps ≤ length e.journal + 1) within (law l.ground l.phases e.journal u.full u.back) in
     let long : 16777215 ≤ length e.journal = omega (arith, most) in
     record {
       all_read = rw status refl;
@@ -345,13 +371,13 @@ appended_nothing : (old new : Option (List ℕ)) → Appended old new [] → new
 appended_nothing None new a = a
 appended_nothing (Some w) new a = a ∙ ap (λ (xs : List ℕ). Some xs) (append-nil w)
 
-left_steps : (l : Loaded) (old new : Option (List ℕ)) (journal : List StepRec) → IsLeft (ground_of l) l.phases old new journal → IfSteps journal (new ≡ old) (IsLeft (ground_of l) l.phases old new journal)
+left_steps : (l : Loaded) (old new : Option (List ℕ)) (journal : List StepRec) → IsLeft l.ground l.phases old new journal → IfSteps journal (new ≡ old) (IsLeft l.ground l.phases old new journal)
 left_steps l old new [] u =
     let none : u.early ≡ [] = nothing_early u.early u.later in
-    appended_nothing old new (subst (λ (h : List StepRec). Appended old new (text_of (ground_of l) (reverse h))) none u.written)
+    appended_nothing old new (subst (λ (h : List StepRec). Appended old new (text_of l.ground (reverse h))) none u.written)
 left_steps l old new (e ∷ es) u = u
 
-left_end : (l : Loaded) (old new : Option (List ℕ)) (e : Ended) → IsLeft (ground_of l) l.phases old new e.journal → Legal (ground_of l) (reverse e.journal) → IsStop l e.journal → e.status ≡ 5 → IsEndOf (Ok l) old new e
+left_end : (l : Loaded) (old new : Option (List ℕ)) (e : Ended) → IsLeft l.ground l.phases old new e.journal → Legal l.ground (reverse e.journal) → IsStop l e.journal → e.status ≡ 5 → IsEndOf (Ok l) old new e
 left_end l old new e u legal stop status = record {
   all_read = rw status tt;
   room = rw status tt;
@@ -370,22 +396,21 @@ left_end l old new e u legal stop status = record {
 }
 
 -- All ends of a run.
-ended_by : (l : Loaded) (old new : Option (List ℕ)) (e : Ended) (end : End) → IsFit l → ScriptIsPhased → StopIsPhased → FullIsLong → IsModel (ground_of l).first → IsEndedBy (ground_of l) l.phases old new e.journal end → Legal (ground_of l) (reverse e.journal) → e.status ≡ status_at end → IsEndOf (Ok l) old new e
+ended_by : (l : Loaded) (old new : Option (List ℕ)) (e : Ended) (end : End) → IsFit l.ground l.phases → ScriptIsPhased → StopIsPhased → FullIsLong → IsModel l.ground.first → IsEndedBy l.ground l.phases old new e.journal end → Legal l.ground (reverse e.journal) → e.status ≡ status_at end → IsEndOf (Ok l) old new e
 ended_by l old new e ending.Passed fit law stops longs model k legal status = played l old new e true (is_played l old new e true fit law model k.0 legal k.1 status) status
 ended_by l old new e ending.Failed fit law stops longs model k legal status = played l old new e false (is_played l old new e false fit law model k.0 legal k.1 status) status
 ended_by l old new e ending.Unwritten fit law stops longs model k legal status =
     let alone : returned (reverse e.journal) ≡ reverse e.journal = ap (λ (cs : List Given). returns cs ++ reverse e.journal) k.none_out in
-    unwritten_end l old new e k legal (stops (ground_of l) l.phases e.journal fit.specs.numbered model fit.order (record { front = reverse e.journal; within = k.within; back = sym alone })) status
-ended_by l old new e ending.Memory fit law stops longs model k legal status = left_end l old new e k legal (stops (ground_of l) l.phases e.journal fit.specs.numbered model fit.order k.cut) status
+    unwritten_end l old new e k legal (stops l.ground l.phases e.journal fit.specs.numbered model fit.order (record { front = reverse e.journal; within = k.within; back = sym alone })) status
+ended_by l old new e ending.Memory fit law stops longs model k legal status = left_end l old new e k legal (stops l.ground l.phases e.journal fit.specs.numbered model fit.order k.cut) status
 ended_by l old new e ending.Full fit law stops longs model k legal status =
-    full_end l old new e longs k legal (stops (ground_of l) l.phases e.journal fit.specs.numbered model fit.order (record { front = script_history (ground_of l) l.phases; within = ([], refl); back = k.back })) status
+    full_end l old new e fit.within longs k legal (stops l.ground l.phases e.journal fit.specs.numbered model fit.order (record { front = script_history l.ground l.phases; within = ([], refl); back = k.back })) status
 
-pub play_end : (l : Loaded) (g : Ground) (old new : Option (List ℕ)) (ran : Ran) (e : Ended) → g ≡ ground_of l → IsFit l → ScriptIsPhased → StopIsPhased → FullIsLong → IsModel g.first → IsRan g l.phases old new ran → e.journal ≡ ran.journal → e.status ≡ status_at ran.end → IsEndOf (Ok l) old new e
-play_end l g old new ran e same fit law stops longs model k journal status =
-    let r : IsRan (ground_of l) l.phases old new ran = subst (λ (x : Ground). IsRan x l.phases old new ran) same k in
-    ended_by l old new e ran.end fit law stops longs (subst (λ (x : Ground). IsModel x.first) same model)
-    (subst (λ (es : List StepRec). IsEndedBy (ground_of l) l.phases old new es ran.end) (sym journal) r.ended)
-    (subst (λ (es : List StepRec). Legal (ground_of l) (reverse es)) (sym journal) r.legal) status
+pub play_end : (l : Loaded) (old new : Option (List ℕ)) (ran : Ran) (e : Ended) → IsFit l.ground l.phases → ScriptIsPhased → StopIsPhased → FullIsLong → IsRan l.ground l.phases old new ran → e.journal ≡ ran.journal → e.status ≡ status_at ran.end → IsEndOf (Ok l) old new e
+play_end l old new ran e fit law stops longs k journal status =
+    ended_by l old new e ran.end fit law stops longs fit.model
+    (subst (λ (es : List StepRec). IsEndedBy l.ground l.phases old new es ran.end) (sym journal) k.ended)
+    (subst (λ (es : List StepRec). Legal l.ground (reverse es)) (sym journal) k.legal) status
 
 -- The sink's count of faults: it stands still, or the sink failed.
 calm_sink : (before faults : ℕ) (e : Ended) → faults ≡ before → is_among (4 ∷ []) e.status ≡ false → IsSinkAfter before faults e
@@ -424,23 +449,14 @@ four : (n : ℕ) (b : Bool) → (4 == n) ≡ b → (b || false) ≡ true → n �
 four n true e t = sym (eqb-true 4 n e)
 four n false e t = absurd (cc)
 
-on_true : (b : Bool) (P : Type 0) → (b ≡ true → P) → OnTrue b P
-on_true true P f = f refl
-on_true false P f = tt
-
 pub at_4 : (n : ℕ) (P : Type 0) → (n ≡ 4 → P) → At (4 ∷ []) n P
 at_4 n P f = on_true (is_among (4 ∷ []) n) P (λ t. f (four n (4 == n) refl t))
 
--- each specification has few requirements
-pub few_requirements : (qs : List Specification) → HaveFewFacets qs → HaveFewRequirements qs
-few_requirements [] k = refl
-few_requirements (q ∷ qs) k = λ i. lt-ltb (length q.requirements) 4294967295 (omega (arith, k.1)) i && few_requirements qs k.2 i
-
 -- ---- what is to be written
 
-pub wanted_text : (l : Loaded) → wanted (Ok l) ≡ text_of (ground_of l) (history_of (ground_of l) l.phases)
+pub wanted_text : (l : Loaded) → wanted (Ok l) ≡ text_of l.ground (history_of l.ground l.phases)
 unfolding wanted
-wanted_text l = output_of l (serial l) ∙ ap (λ (es : List StepRec). text_of (ground_of l) es) (serial_of l)
+wanted_text l = output_of l (serial l) ∙ ap (λ (es : List StepRec). text_of l.ground es) (serial_of l)
 
 pub wanted_line : (refused : Refused) → wanted (Err refused) ≡ refused_line refused
 unfolding wanted

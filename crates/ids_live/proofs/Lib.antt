@@ -1,5 +1,5 @@
+pub mod Arriving
+pub mod Filed
+pub mod Telling
 pub mod Completeness
 pub mod Ends
-pub mod Loads
-pub mod Telling
-pub mod Reaching

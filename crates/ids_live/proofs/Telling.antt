@@ -7,17 +7,22 @@ use Rattle.std.proofs.lemmas.Grind.{common_steps}
 use Rattle.std.proofs.lemmas.List.{take_all}
 use Rattle.shelf_io.specs.Pieces.{Files, file_told, file_named, IsMissing}
 use Rattle.shelf_io.specs.Reads.{Read}
+use Rattle.schema_table.specs.Schema.{Schema}
 use Rattle.audit_model.specs.declared.specification.Specification.{Specification}
-use Rattle.ifc_base.specs.declared.value.Instance.{Instance}
+use Rattle.audit_model.specs.History.{Ground}
+use Rattle.ids_live.specs.declared.ending.Ended.{Ended}
+use Rattle.ids_live.specs.declared.refused.Input.{Input}
+use Rattle.ids_live.specs.declared.refused.Input.TheVariants as input
 use Rattle.ids_live.specs.declared.refused.Refused.{Refused}
-use Rattle.ids_live.specs.declared.load.Loaded.{Loaded}
 use Rattle.ids_live.specs.declared.stop.Stop.{Stop}
 use Rattle.ids_live.specs.declared.stop.Stop.TheVariants as stop
-use Rattle.ids_live.specs.Inputs.{Inputs, HasFile, IsHeld, limit, model_limit, schema_read, specs_read, model_read}
+use Rattle.ids_live.specs.Forms.{loaded, loaded_of, behind, to_schema, to_specs, to_model, schema_read, specs_read, model_read, script_read, IsReached}
+use Rattle.ids_live.specs.Inputs.{Inputs, HasFile, IsHeld, bytes_of, name_of, limit_of, limit, model_limit}
+use Rattle.ids_live.specs.Reading.{AreHeld}
 use Rattle.ids_live.specs.Stops.{StaysSteady}
 use Rattle.ids_live.specs.Told.{within, input_told, AreTold, AreSteady, IsUnsteady}
 use Rattle.ids_live.specs.Words.{Command}
-use Rattle.ids_live.proofs.Loads.{Given}
+use Rattle.ids_live.proofs.Arriving.{Arrived, and_then_err, and_then_ok, reads_ok}
 
 -- ---- what was read of a file that may have one byte more than the limit
 
@@ -89,13 +94,6 @@ not_missing : (held : Option Files) (name : List ℕ) (most : ℕ) (t : Option (
 not_missing None name most t e m = m
 not_missing (Some files) name most t e m = none_told (file_named (chars name) files) most t m e
 
--- an input that was read is told as one that reads
-read_ok : {V : Type 0} {old new : List Read} (held : Option Files) (name : List ℕ) (most : ℕ) (read : Option (List ℕ) → Result V Refused) (x : V) (t : Option (List ℕ)) → Given held old new name most read (Ok x) → input_told held name most ≡ Some t → IsOk (read t)
-read_ok held name most read x t g e =
-    let is : g.0 ≡ t = told_is held name most g.0 t g.1.0 e in
-    let reads : read t ≡ Ok x = ap read (sym is) ∙ g.2 in
-    rw reads refl
-
 -- The shelf is steady at the name, and tells its file.
 abbrev pub IsAt : Option Files → (List ℕ → Type 0) → List ℕ → Type 0
 IsAt held steady name = steady (chars name) × (IsMissing held (chars name) → ⊥)
@@ -104,35 +102,82 @@ IsAt held steady name = steady (chars name) × (IsMissing held (chars name) → 
 abbrev pub Comes : Option Files → (List ℕ → Type 0) → Command → List ℕ → Type 0
 Comes held steady command name = (i : Inputs) → AreTold held command i → AreSteady steady command i → IsAt held steady name
 
-pub schema_comes : (held : Option Files) (steady : List ℕ → Type 0) (command : Command) → Comes held steady command command.schema
-schema_comes held steady command i t s = (s.schema, λ m. not_missing held command.schema limit i.schema t.schema m)
+-- ---- inputs that are held and told read as those that are told
 
-pub specs_comes : {old first : List Read} (held : Option Files) (steady : List ℕ → Type 0) (command : Command) (x : Unit {0}) → Given held old first command.schema limit schema_read (Ok x)
-    → Comes held steady command command.specs
-specs_comes held steady command x f i t s =
-    let a : IsOk (schema_read i.schema) = read_ok held command.schema limit schema_read x i.schema f t.schema in
-    (s.specs a, λ m. not_missing held command.specs limit i.specs (t.specs a) m)
+-- so the schema
+pub same_schema : (held : Option Files) (command : Command) (i t : Inputs) → IsHeld held command.schema limit i.schema → AreTold held command t → to_schema i ≡ to_schema t
+same_schema held command i t h told = ap schema_read (told_is held command.schema limit i.schema t.schema h (told input.Schema tt))
 
-pub model_comes : {old first second : List Read} (held : Option Files) (steady : List ℕ → Type 0) (command : Command) (x : Unit {0}) (y : List Specification) → Given held old first command.schema limit schema_read (Ok x)
-    → Given held first second command.specs limit specs_read (Ok y) → Comes held steady command command.model
-model_comes held steady command x y f f' i t s =
-    let a : IsOk (schema_read i.schema) = read_ok held command.schema limit schema_read x i.schema f t.schema in
-    let b : IsOk (specs_read i.specs) = read_ok held command.specs limit specs_read y i.specs f' (t.specs a) in
-    (s.model a b, λ m. not_missing held command.model model_limit i.model (t.model a b) m)
+specs_same : (held : Option Files) (command : Command) (i t : Inputs) (r : Result Schema Refused) → to_schema i ≡ r → to_schema i ≡ to_schema t
+    → (IsOk (to_schema i) → IsHeld held command.specs limit i.specs) → AreTold held command t → to_specs i ≡ to_specs t
+specs_same held command i t (Err e) is same h told =
+    and_then_err (to_schema i) e (λ s. behind s (specs_read i.specs)) is ∙ sym (and_then_err (to_schema t) e (λ s. behind s (specs_read t.specs)) (sym same ∙ is))
+specs_same held command i t (Ok s) is same h told =
+    let reached : IsOk (to_schema t) = reads_ok (to_schema t) s (sym same ∙ is) in
+    let bytes : i.specs ≡ t.specs = told_is held command.specs limit i.specs t.specs (h (reads_ok (to_schema i) s is)) (told input.Specs reached) in
+    and_then_ok (to_schema i) s (λ x. behind x (specs_read i.specs)) is ∙ ap (λ (b : Option (List ℕ)). behind s (specs_read b)) bytes
+    ∙ sym (and_then_ok (to_schema t) s (λ x. behind x (specs_read t.specs)) (sym same ∙ is))
 
-pub script_comes : {old first second third : List Read} (held : Option Files) (steady : List ℕ → Type 0) (command : Command) (x : Unit {0}) (y : List Specification) (z : List Instance) → Given held old first command.schema limit schema_read (Ok x)
-    → Given held first second command.specs limit specs_read (Ok y) → Given held second third command.model model_limit model_read (Ok z) → Comes held steady command command.script
-script_comes held steady command x y z f f' f'' i t s =
-    let a : IsOk (schema_read i.schema) = read_ok held command.schema limit schema_read x i.schema f t.schema in
-    let b : IsOk (specs_read i.specs) = read_ok held command.specs limit specs_read y i.specs f' (t.specs a) in
-    let d : IsOk (model_read i.model) = read_ok held command.model model_limit model_read z i.model f'' (t.model a b) in
-    (s.script a b d, λ m. not_missing held command.script limit i.script (t.script a b d) m)
+-- and the specifications
+pub same_specs : (held : Option Files) (command : Command) (i t : Inputs) → to_schema i ≡ to_schema t → (IsOk (to_schema i) → IsHeld held command.specs limit i.specs) → AreTold held command t → to_specs i ≡ to_specs t
+same_specs held command i t same h told = specs_same held command i t (to_schema i) refl same h told
+
+model_same : (held : Option Files) (command : Command) (i t : Inputs) (r : Result (Schema × List Specification) Refused) → to_specs i ≡ r → to_specs i ≡ to_specs t
+    → (IsOk (to_specs i) → IsHeld held command.model model_limit i.model) → AreTold held command t → to_model i ≡ to_model t
+model_same held command i t (Err e) is same h told =
+    and_then_err (to_specs i) e (λ before. model_read before.0 before.1 i.model) is ∙ sym (and_then_err (to_specs t) e (λ before. model_read before.0 before.1 t.model) (sym same ∙ is))
+model_same held command i t (Ok p) is same h told =
+    let reached : IsOk (to_specs t) = reads_ok (to_specs t) p (sym same ∙ is) in
+    let bytes : i.model ≡ t.model = told_is held command.model model_limit i.model t.model (h (reads_ok (to_specs i) p is)) (told input.Model reached) in
+    and_then_ok (to_specs i) p (λ before. model_read before.0 before.1 i.model) is ∙ ap (λ (b : Option (List ℕ)). model_read p.0 p.1 b) bytes
+    ∙ sym (and_then_ok (to_specs t) p (λ before. model_read before.0 before.1 t.model) (sym same ∙ is))
+
+-- and the model
+pub same_model : (held : Option Files) (command : Command) (i t : Inputs) → to_specs i ≡ to_specs t → (IsOk (to_specs i) → IsHeld held command.model model_limit i.model) → AreTold held command t → to_model i ≡ to_model t
+same_model held command i t same h told = model_same held command i t (to_specs i) refl same h told
+
+loaded_same : (held : Option Files) (command : Command) (i t : Inputs) (r : Result Ground Refused) → to_model i ≡ r → to_model i ≡ to_model t
+    → (IsOk (to_model i) → IsHeld held command.script limit i.script) → AreTold held command t → loaded_of i ≡ loaded_of t
+unfolding loaded_of
+loaded_same held command i t (Err e) is same h told =
+    and_then_err (to_model i) e (λ g. loaded g (script_read i.script)) is ∙ sym (and_then_err (to_model t) e (λ g. loaded g (script_read t.script)) (sym same ∙ is))
+loaded_same held command i t (Ok g) is same h told =
+    let reached : IsOk (to_model t) = reads_ok (to_model t) g (sym same ∙ is) in
+    let bytes : i.script ≡ t.script = told_is held command.script limit i.script t.script (h (reads_ok (to_model i) g is)) (told input.Script reached) in
+    and_then_ok (to_model i) g (λ x. loaded x (script_read i.script)) is ∙ ap (λ (b : Option (List ℕ)). loaded g (script_read b)) bytes
+    ∙ sym (and_then_ok (to_model t) g (λ x. loaded x (script_read t.script)) (sym same ∙ is))
+
+-- inputs that are held load as those that are told
+pub same_loading : (held : Option Files) (command : Command) (i t : Inputs) → AreHeld held command i → AreTold held command t → loaded_of i ≡ loaded_of t
+same_loading held command i t h told =
+    let schema : to_schema i ≡ to_schema t = same_schema held command i t (h input.Schema tt) told in
+    let specs : to_specs i ≡ to_specs t = same_specs held command i t schema (h input.Specs) told in
+    let model : to_model i ≡ to_model t = same_model held command i t specs (h input.Model) told in
+    loaded_same held command i t (to_model i) refl model (h input.Script) told
+
+-- where the reading has come to an input, it comes to it too by the inputs that are told
+reached_told : (held : Option Files) (command : Command) (old now : List Read) (i t : Inputs) (at : Input) → Arrived held command old now i at → AreTold held command t → IsReached t at
+reached_told held command old now i t input.Schema a told = tt
+reached_told held command old now i t input.Specs a told =
+    subst (λ (r : Result Schema Refused). IsOk r) (same_schema held command i t a.holds told) a.reached
+reached_told held command old now i t input.Model a told =
+    let schema : to_schema i ≡ to_schema t = same_schema held command i t a.holds.0 told in
+    subst (λ (r : Result (Schema × List Specification) Refused). IsOk r) (same_specs held command i t schema (λ ok. a.holds.1) told) a.reached
+reached_told held command old now i t input.Script a told =
+    let schema : to_schema i ≡ to_schema t = same_schema held command i t a.holds.0 told in
+    let specs : to_specs i ≡ to_specs t = same_specs held command i t schema (λ ok. a.holds.1) told in
+    subst (λ (r : Result Ground Refused). IsOk r) (same_model held command i t specs (λ ok. a.holds.2) told) a.reached
+
+pub comes_at : (held : Option Files) (steady : List ℕ → Type 0) (command : Command) (old now : List Read) (i : Inputs) (at : Input) → Arrived held command old now i at → Comes held steady command (name_of command at)
+comes_at held steady command old now i at a t told s =
+    let reached : IsReached t at = reached_told held command old now i t at a told in
+    (s at reached, λ missing. not_missing held (name_of command at) (limit_of at) (bytes_of t at) (told at reached) missing)
 
 -- a stop at this input, behind others that were read without a fault
 pub stops : (V : Type 0) (held now : Option Files) (steady was after : List ℕ → Type 0) (command : Command) (name : List ℕ) (before mid faults : ℕ) (e : Stop)
     → now ≡ held → mid ≡ before → ((other : List ℕ) → steady other → was other) → Comes held steady command name
     → StaysSteady {V = V} was after mid faults (was (chars name) → IsMissing now (chars name)) (Err e)
-    → StaysSteady {V = Loaded} steady after before faults (IsUnsteady held steady command) (Err e)
+    → StaysSteady {V = Ended} steady after before faults (IsUnsteady held steady command) (Err e)
 stops V held now steady was after command name before mid faults stop.Shelf same calm stays comes k = record {
   stays = λ other h. k.stays other (stays other h);
   calm = tt;

@@ -1,7 +1,7 @@
 -- Which status a run has over inputs that the shelf tells, up to the first that is refused, and where nothing outside fails.
 use Rattle.std.specs.Prelude.{◌≡◌, ℕ, List, ◌∷◌, [], true, false, Result, Ok, Err, IsErr, IsTrue, MatchResult}
 use Rattle.ids_live.specs.declared.refused.Refused.{Refused}
-use Rattle.ids_live.specs.declared.load.Loaded.{Loaded}
+use Rattle.ids_live.specs.Forms.{Loaded}
 use Rattle.ids_live.specs.Lines.{refused_line}
 use Rattle.ids_live.specs.Run.{is_among}
 use Rattle.ids_live.specs.Steps.{serial, meets_full, output}

@@ -1,15 +1,17 @@
--- What stands of inputs that were loaded.
-use Rattle.std.specs.Prelude.{◌≤◌, length}
-use Rattle.audit_model.specs.Models.{HasDistinctIds}
+-- What a run asks of its ground and its script.
+use Rattle.std.specs.Prelude.{◌≡◌, List}
+use Rattle.audit_model.specs.declared.script.Phase.{Phase}
+use Rattle.audit_model.specs.History.{Ground}
+use Rattle.audit_model.specs.Models.{IsModel}
 use Rattle.audit_model.specs.ScriptOrder.{AreOrderly}
-use Rattle.audit_model.specs.Specifications.{AreSpecifications}
-use Rattle.ids_live.specs.declared.load.Loaded.{Loaded}
-use Rattle.ids_live.specs.Inputs.{instance_limit}
+use Rattle.audit_model.specs.Specifications.{AreBuilt, AreSpecifications}
+use Rattle.ids_live.specs.Forms.{limits}
 
--- The specifications are numbered by their places; no two instances have one id, and there are at most as many as a model may have;
--- the lines of the script are of editor 1 and may come in their order.
-pub record IsFit (l : Loaded) : Type 0 where
-  pub specs : AreSpecifications l.specs
-  pub distinct : HasDistinctIds l.instances
-  pub few : length l.instances ≤ instance_limit
-  pub order : AreOrderly 1 l.phases
+-- The specifications are numbered by their places and have facets that are built; the instances of the model have ascending ids; the
+-- limits are those of the program; the lines of the script are of editor 1 and may come in their order.
+pub record IsFit (g : Ground) (phases : List Phase) : Type 0 where
+  pub specs : AreSpecifications g.specs
+  pub built : AreBuilt g.specs
+  pub model : IsModel g.first
+  pub within : g.limits ≡ limits
+  pub order : AreOrderly 1 phases

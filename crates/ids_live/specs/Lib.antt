@@ -1,5 +1,6 @@
 pub mod Words
 pub mod Inputs
+pub mod Forms
 pub mod Lines
 pub mod Told
 pub mod Reading
@@ -7,5 +8,6 @@ pub mod Stops
 pub mod Steps
 pub mod Run
 pub mod Complete
+pub mod Course
 pub mod Failures
 pub mod Fitness

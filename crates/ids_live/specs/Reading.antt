@@ -1,9 +1,12 @@
 -- What was read of the inputs, by the log of the shelf.
-use Rattle.std.specs.Prelude.{◌≡◌, ◌⊎◌, ℕ, ◌+◌, ◌≤◌, List, length, Option, Some, None, IsOk, IsErr}
+use Rattle.std.specs.Prelude.{◌≡◌, ◌⊎◌, ℕ, ◌+◌, ◌≤◌, List, length, Option, Some, None}
 use Rattle.std.specs.Str.{chars}
 use Rattle.shelf_io.specs.Pieces.{Files}
 use Rattle.shelf_io.specs.Reads.{Read, IsWhole, IsCutShort, IsBegun}
-use Rattle.ids_live.specs.Inputs.{Inputs, IsHeld, AreHeld, limit, model_limit, schema_read, specs_read, model_read}
+use Rattle.ids_live.specs.declared.refused.Input.{Input}
+use Rattle.ids_live.specs.declared.refused.Input.TheVariants as input
+use Rattle.ids_live.specs.Forms.{IsReached, IsLast}
+use Rattle.ids_live.specs.Inputs.{Inputs, IsHeld, bytes_of, name_of, limit_of, limit, model_limit}
 use Rattle.ids_live.specs.Words.{Command}
 
 -- The log went from `old` to `new` by reading this input: whole, or one byte past its limit where it is longer.
@@ -19,32 +22,35 @@ IsCut name most old new = IsCutShort (chars name) (most + 1) old new
 abbrev pub IsPart : List ℕ → ℕ → List Read → List Read → Type 0
 IsPart name most old new = IsBegun (chars name) (most + 1) old new ⊎ ((bytes : List ℕ) × IsWhole (chars name) (most + 1) old new bytes)
 
--- Each input, up to the first that is refused, was read in its turn, and nothing else was. `first`, `second` and `third` are the log behind
--- the schema, the specifications and the model, as far as these are read.
-pub record AreRead (command : Command) (old new : List Read) (i : Inputs) : Type 0 where
-  pub first : List Read
-  pub second : List Read
-  pub third : List Read
-  pub schema : IsRead command.schema limit old first i.schema
-  pub no_specs : IsErr (schema_read i.schema) → new ≡ first
-  pub specs : IsOk (schema_read i.schema) → IsRead command.specs limit first second i.specs
-  pub no_model : IsOk (schema_read i.schema) → IsErr (specs_read i.specs) → new ≡ second
-  pub model : IsOk (schema_read i.schema) → IsOk (specs_read i.specs) → IsRead command.model model_limit second third i.model
-  pub no_script : IsOk (schema_read i.schema) → IsOk (specs_read i.specs) → IsErr (model_read i.model) → new ≡ third
-  pub script : IsOk (schema_read i.schema) → IsOk (specs_read i.specs) → IsOk (model_read i.model) → IsRead command.script limit third new i.script
+-- It went by reading the inputs before this one, each in its turn, and by nothing else.
+abbrev pub AreReadBefore : Command → Inputs → Input → List Read → List Read → Type 0
+AreReadBefore command i input.Schema old new = new ≡ old
+AreReadBefore command i input.Specs old new = IsRead command.schema limit old new i.schema
+AreReadBefore command i input.Model old new =
+    (first : List Read) × IsRead command.schema limit old first i.schema × IsRead command.specs limit first new i.specs
+AreReadBefore command i input.Script old new =
+    (first : List Read) × (second : List Read) × IsRead command.schema limit old first i.schema × IsRead command.specs limit first second i.specs
+    × IsRead command.model model_limit second new i.model
 
--- At one of the inputs, in the order schema, specifications, model, script, this is so; those before it were read in their turn and have
--- a reading.
-pub data CameTo (IsThere : List ℕ → ℕ → List Read → List Read → Type 0) (command : Command) : List Read → List Read → Type 0 where
-  to_schema : {old new : List Read} → IsThere command.schema limit old new → CameTo IsThere command old new
-  to_specs : {old new : List Read} (first : List Read) (schema : Option (List ℕ)) → IsRead command.schema limit old first schema → IsOk (schema_read schema)
-      → IsThere command.specs limit first new → CameTo IsThere command old new
-  to_model : {old new : List Read} (first second : List Read) (schema specs : Option (List ℕ)) → IsRead command.schema limit old first schema → IsOk (schema_read schema)
-      → IsRead command.specs limit first second specs → IsOk (specs_read specs)
-      → IsThere command.model model_limit second new → CameTo IsThere command old new
-  to_script : {old new : List Read} (first second third : List Read) (schema specs model : Option (List ℕ)) → IsRead command.schema limit old first schema → IsOk (schema_read schema)
-      → IsRead command.specs limit first second specs → IsOk (specs_read specs) → IsRead command.model model_limit second third model → IsOk (model_read model)
-      → IsThere command.script limit third new → CameTo IsThere command old new
+-- The reading came to this input, and there this is so.
+pub record IsAtInput (IsThere : List ℕ → ℕ → List Read → List Read → Type 0) (command : Command) (old new : List Read) (i : Inputs) (at : Input) : Type 0 where
+  pub reached : IsReached i at
+  pub log : List Read
+  pub before : AreReadBefore command i at old log
+  pub there : IsThere (name_of command at) (limit_of at) log new
+
+-- At one of the inputs this is so; those before it were read in their turn and have a reading.
+abbrev pub CameTo : (List ℕ → ℕ → List Read → List Read → Type 0) → Command → List Read → List Read → Type 0
+CameTo IsThere command old new = (i : Inputs) × (at : Input) × IsAtInput IsThere command old new i at
+
+-- Each input, up to the first that is refused, was read in its turn, and nothing else was.
+abbrev pub AreRead : Command → List Read → List Read → Inputs → Type 0
+AreRead command old new i =
+    (at : Input) × IsLast i at × IsAtInput (λ name most log now. IsRead name most log now (bytes_of i at)) command old new i at
+
+-- Each input, up to the first that is refused, is what the shelf holds under its name, where it tells what it holds.
+abbrev pub AreHeld : Option Files → Command → Inputs → Type 0
+AreHeld held command i = (at : Input) → IsReached i at → IsHeld held (name_of command at) (limit_of at) (bytes_of i at)
 
 -- an input that the shelf holds, where it tells, and that was read
 abbrev pub IsInput : Option Files → List Read → List Read → List ℕ → ℕ → Option (List ℕ) → Type 0

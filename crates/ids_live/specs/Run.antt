@@ -10,16 +10,16 @@ use Rattle.audit_model.specs.Machine.{Legal}
 use Rattle.audit_model.specs.declared.step.StepRec.{StepRec}
 use Rattle.ids_live.specs.declared.ending.Ended.{Ended}
 use Rattle.ids_live.specs.declared.refused.Refused.{Refused}
-use Rattle.ids_live.specs.declared.load.Loaded.{Loaded}
 use Rattle.ids_live.specs.Words.{Command}
-use Rattle.ids_live.specs.Inputs.{Inputs, loaded_of}
+use Rattle.ids_live.specs.Forms.{Loaded, loaded_of}
+use Rattle.ids_live.specs.Inputs.{Inputs}
 use Rattle.ids_live.specs.Reading.{IsCut, IsPart, CameTo, AreInputs}
 use Rattle.ids_live.specs.Lines.{refused_line}
 use Rattle.serial_run.specs.Growth.{returned}
 use Rattle.serial_run.specs.Phased.{ArePhases}
 use Rattle.serial_run.specs.Runs.{ends_pass, IsUnwritten, IsLeft}
 use Rattle.serial_run.specs.Stopped.{AreStopped}
-use Rattle.ids_live.specs.Steps.{ground_of, serial, meets_full, output, IsFrontWritten}
+use Rattle.ids_live.specs.Steps.{serial, meets_full, output, IsFrontWritten}
 
 -- the status is one of these
 abbrev pub is_among : List ℕ → ℕ → Bool
@@ -49,7 +49,7 @@ pub record IsEndOf (loading : Result Loaded Refused) (old new : Option (List ℕ
   -- and no claim is out
   pub none_out : At (4 ∷ 5 ∷ 7 ∷ []) ended.status (out (reverse ended.journal) ≡ [])
   -- the history is legal: each reply is the one that the entries before it give
-  pub legal : At (0 ∷ 1 ∷ 4 ∷ 5 ∷ 7 ∷ []) ended.status (IfOk loading (λ l. Legal (ground_of l) (reverse ended.journal)))
+  pub legal : At (0 ∷ 1 ∷ 4 ∷ 5 ∷ 7 ∷ []) ended.status (IfOk loading (λ l. Legal l.ground (reverse ended.journal)))
   -- the text of all its phases was written
   pub text : At (0 ∷ 1 ∷ 7 ∷ []) ended.status (IfOk loading (λ l. Appended old new (output l ended.journal)))
   -- the status is 0 exactly where the text ends with `end pass`, else 1
@@ -61,9 +61,9 @@ pub record IsEndOf (loading : Result Loaded Refused) (old new : Option (List ℕ
   -- at 2 an input was refused, no step was made, and the line of the refused input was written
   pub refusal : At (2 ∷ []) ended.status (MatchResult loading (λ l. ⊥) (λ refused. (ended.journal ≡ []) × Appended old new (refused_line refused)))
   -- at 4 the sink failed in the text of a phase, or in the line of the refused input
-  pub sink : At (4 ∷ []) ended.status (MatchResult loading (λ l. IsUnwritten (ground_of l) l.phases old new ended.journal) (λ refused. (ended.journal ≡ []) × IsFrontWritten old new (refused_line refused)))
+  pub sink : At (4 ∷ []) ended.status (MatchResult loading (λ l. IsUnwritten l.ground l.phases old new ended.journal) (λ refused. (ended.journal ≡ []) × IsFrontWritten old new (refused_line refused)))
   -- at 5 memory was wanting before the first step, or in the run
-  pub memory : At (5 ∷ []) ended.status (IfSteps ended.journal (new ≡ old) (MatchResult loading (λ l. IsLeft (ground_of l) l.phases old new ended.journal) (λ refused. ⊥)))
+  pub memory : At (5 ∷ []) ended.status (IfSteps ended.journal (new ≡ old) (MatchResult loading (λ l. IsLeft l.ground l.phases old new ended.journal) (λ refused. ⊥)))
 
 -- The run of a command over inputs. `before` and `after` are the log of the shelf.
 pub record IsRun (held : Option Files) (before after : List Read) (command : Command) (old new : Option (List ℕ)) (ended : Ended) (i : Inputs) : Type 0 where

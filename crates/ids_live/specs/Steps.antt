@@ -2,30 +2,23 @@
 use Rattle.std.specs.Prelude.{ℕ, ◌<◌, Bool, List, length, take, Option}
 use Rattle.shelf_io.specs.Pieces.{Appended}
 use Rattle.audit_model.specs.declared.step.StepRec.{StepRec}
-use Rattle.audit_model.specs.History.{Ground}
-use Rattle.audit_model.specs.Models.{model_of_file}
 use Rattle.audit_model.specs.Output.{output as text_of}
 use Rattle.audit_model.specs.Serial.{serial as history_of, meets_full as is_filled}
 use Rattle.serial_run.specs.declared.run.End.{End}
 use Rattle.serial_run.specs.declared.run.End.TheVariants as ending
-use Rattle.ids_live.specs.declared.load.Loaded.{Loaded}
-use Rattle.ids_live.specs.Inputs.{instance_limit}
-
--- The ground of the history: the specifications, the model of the file's instances, and the limits of the program.
-abbrev pub ground_of : Loaded → Ground
-ground_of l = record { specs = l.specs; first = model_of_file l.instances; limits = record { steps = 16777216; revisions = 100000; instances = instance_limit } }
+use Rattle.ids_live.specs.Forms.{Loaded}
 
 -- the history that the script makes
 unfoldable pub serial : Loaded → List StepRec
-serial l = history_of (ground_of l) l.phases
+serial l = history_of (l.ground) l.phases
 
 -- it ended before a call that would be answered Full
 unfoldable pub meets_full : Loaded → Bool
-meets_full l = is_filled (ground_of l) l.phases
+meets_full l = is_filled (l.ground) l.phases
 
 -- The text of a journal: that of its whole phases.
 unfoldable pub output : Loaded → List StepRec → List ℕ
-output l journal = text_of (ground_of l) journal
+output l journal = text_of (l.ground) journal
 
 -- the status of a run that ended so
 abbrev pub status_at : End → ℕ

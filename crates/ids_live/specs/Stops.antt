@@ -6,13 +6,13 @@ use Rattle.ids_live.specs.declared.refused.Refused.{Refused}
 use Rattle.ids_live.specs.declared.stop.Stop.{Stop}
 use Rattle.ids_live.specs.declared.stop.Stop.TheVariants as stop
 
--- There was an input of this kind, and the answer is what it reads as. A fault of the shelf and want of
--- memory say nothing.
-abbrev pub Reads : {I V : Type 0} → (I → Type 0) → (I → Result V Refused) → Result V Stop → Type 0
-Reads {I} IsInput read (Ok value) = (i : I) × IsInput i × (read i ≡ Ok value)
-Reads {I} IsInput read (Err (stop.Refused refused)) = (i : I) × IsInput i × (read i ≡ Err refused)
-Reads IsInput read (Err stop.Shelf) = ⊤
-Reads IsInput read (Err stop.Memory) = ⊤
+-- There was an input of this kind, and the answer, seen by `view`, is what it reads as. A fault of the shelf and want of memory say
+-- nothing.
+abbrev pub Reads : {I V W : Type 0} → (V → W) → (I → Type 0) → (I → Result W Refused) → Result V Stop → Type 0
+Reads {I} view IsInput read (Ok value) = (i : I) × IsInput i × (read i ≡ Ok (view value))
+Reads {I} view IsInput read (Err (stop.Refused refused)) = (i : I) × IsInput i × (read i ≡ Err refused)
+Reads view IsInput read (Err stop.Shelf) = ⊤
+Reads view IsInput read (Err stop.Memory) = ⊤
 
 -- the fact, where the shelf was at fault
 abbrev pub OnShelf : {V : Type 0} → Result V Stop → Type 0 → Type 0

@@ -1,9 +1,11 @@
 -- The inputs that a shelf tells, and where it is steady at them.
-use Rattle.std.specs.Prelude.{◌≡◌, ℕ, List, length, nat_le, Option, Some, None, IsOk, if◌then◌else◌}
+use Rattle.std.specs.Prelude.{◌≡◌, ℕ, List, length, nat_le, Option, Some, None, if◌then◌else◌}
 use Rattle.std.specs.Option.{option_map}
 use Rattle.std.specs.Str.{chars}
 use Rattle.shelf_io.specs.Pieces.{Files, file_told}
-use Rattle.ids_live.specs.Inputs.{Inputs, limit, model_limit, schema_read, specs_read, model_read}
+use Rattle.ids_live.specs.declared.refused.Input.{Input}
+use Rattle.ids_live.specs.Forms.{IsReached}
+use Rattle.ids_live.specs.Inputs.{Inputs, bytes_of, name_of, limit_of}
 use Rattle.ids_live.specs.Words.{Command}
 
 -- an input's bytes, or None where they are more than the limit
@@ -15,18 +17,12 @@ abbrev pub input_told : Option Files → List ℕ → ℕ → Option (Option (Li
 input_told held name most = option_map (within most) (file_told held (chars name))
 
 -- The shelf tells each input up to the first that is refused, whatever it holds under the other names.
-pub record AreTold (held : Option Files) (command : Command) (i : Inputs) : Type 0 where
-  pub schema : input_told held command.schema limit ≡ Some i.schema
-  pub specs : IsOk (schema_read i.schema) → input_told held command.specs limit ≡ Some i.specs
-  pub model : IsOk (schema_read i.schema) → IsOk (specs_read i.specs) → input_told held command.model model_limit ≡ Some i.model
-  pub script : IsOk (schema_read i.schema) → IsOk (specs_read i.specs) → IsOk (model_read i.model) → input_told held command.script limit ≡ Some i.script
+abbrev pub AreTold : Option Files → Command → Inputs → Type 0
+AreTold held command i = (at : Input) → IsReached i at → input_told held (name_of command at) (limit_of at) ≡ Some (bytes_of i at)
 
 -- The shelf is steady at the name of each input up to the first that is refused.
-pub record AreSteady (steady : List ℕ → Type 0) (command : Command) (i : Inputs) : Type 0 where
-  pub schema : steady (chars command.schema)
-  pub specs : IsOk (schema_read i.schema) → steady (chars command.specs)
-  pub model : IsOk (schema_read i.schema) → IsOk (specs_read i.specs) → steady (chars command.model)
-  pub script : IsOk (schema_read i.schema) → IsOk (specs_read i.specs) → IsOk (model_read i.model) → steady (chars command.script)
+abbrev pub AreSteady : (List ℕ → Type 0) → Command → Inputs → Type 0
+AreSteady steady command i = (at : Input) → IsReached i at → steady (chars (name_of command at))
 
 -- The shelf doesn't tell all inputs up to the first that is refused, or isn't steady at one of them.
 abbrev pub IsUnsteady : Option Files → (List ℕ → Type 0) → Command → Type 0

@@ -1,24 +1,26 @@
-//! The four inputs, read whole and then as their forms.
-ghost use Rattle.std.specs.Prelude.{◌≡◌, ◌<◌, ◌≤◌, length, IfOk, IfErr};
+//! The four inputs, each read whole and then as its form.
+ghost use Rattle.std.specs.Prelude.{◌≡◌, ◌<◌, [], IfOk, IfErr};
 ghost use Rattle.std.specs.Str.{chars};
-ghost use Rattle.audit_model.specs.Models.{HasDistinctIds};
+ghost use Rattle.audit_model.specs.Models.{IsModel};
 ghost use Rattle.audit_model.specs.ScriptOrder.{AreOrderly};
-ghost use Rattle.audit_model.specs.Specifications.{AreSpecifications};
+ghost use Rattle.audit_model.specs.Specifications.{AreBuilt, AreSpecifications};
+ghost use Rattle.reading.specs.Lines.{Answers};
 ghost use Rattle.shelf_io.specs.Pieces.{IsMissing};
-ghost use Rattle.ids_live.specs.Fitness.{IsFit};
-ghost use Rattle.ids_live.specs.Inputs.{limit, model_limit, instance_limit, past_mark};
-ghost use Rattle.ids_live.specs.Inputs.{schema_read, specs_read, model_read, script_read, loaded_of};
-ghost use Rattle.ids_live.specs.Reading.{CameTo, IsCut, IsPart, IsInput, AreInputs};
+ghost use Rattle.ids_live.specs.Forms.{past_mark, limits, schema_of, specs_of, model_of, script_of};
+ghost use Rattle.ids_live.specs.Forms.{schema_read, specs_read, model_read, script_read};
+ghost use Rattle.ids_live.specs.Inputs.{limit, model_limit};
+ghost use Rattle.ids_live.specs.Reading.{IsCut, IsPart, IsInput};
 ghost use Rattle.ids_live.specs.Stops.{Reads, LeavesShelf, StaysSteady, IsOutside, Stopped};
-ghost use Rattle.ids_live.specs.Told.{IsUnsteady};
-ghost use Rattle.ids_live.specs.Words.{command_shown};
 
 use crate::refused::{Input, Refused};
 use crate::stop::Stop;
-use crate::words::Names;
-use audit_model::{Phases, Specifications};
-use ifc_base::{Bytes, Instances, Refusal};
-use narrow_forms::{read_model, read_script, read_specifications};
+use audit_core::Core;
+use audit_model::{Limits, Phases, Specification, Specifications};
+use express_decl::read_declarations;
+use ifc_base::{Bytes, Refusal};
+use narrow_forms::{read_script, read_specifications};
+use p21_read::read_file;
+use schema_table::SchemaTable;
 use shelf_io::{Shelf, read_all};
 use std::alloc::Global;
 
@@ -31,105 +33,155 @@ const LIMIT: usize = 16_777_216;
 /// The most instances of a model.
 const INSTANCE_LIMIT: u32 = 2_000_000;
 
-/// What the inputs say.
-#[derive(Drop)]
-pub struct Loaded {
-    pub specs: Specifications,
-    /// In the order of the file; no two have one id.
-    pub instances: Instances,
-    /// The phases of the script, whose lines are of editor 1 and may come in their order.
-    pub phases: Phases,
-}
-
-/// Reads the inputs in their order, up to the first that is refused.
-pub fn load<S: Shelf>(alloc: Global, shelf: &mut S, names: Names) -> Result<Loaded, Stop>
-    ensures shelf { LeavesShelf (S.held shelf.old) (S.held shelf.new) (S.faults shelf.old)
-        (S.faults shelf.new) result }
-    ensures steady { StaysSteady (S.steady shelf.old) (S.steady shelf.new) (S.faults shelf.old)
-        (S.faults shelf.new) (IsUnsteady (S.held shelf.old) (S.steady shelf.old) (command_shown names.entry)) result }
-    ensures reads { Reads (AreInputs (S.held shelf.old) (S.reads shelf.old) (S.reads shelf.new)
-        (command_shown names.entry)) loaded_of result }
-    ensures stopped { Stopped (CameTo IsCut (command_shown names.entry) (S.reads shelf.old) (S.reads shelf.new))
-        (CameTo IsPart (command_shown names.entry) (S.reads shelf.old) (S.reads shelf.new)) result }
-    ensures fit { IfOk result IsFit }
-{
-    load_schema(alloc, shelf, names.schema)?;
-    let specs = load_specs(alloc, shelf, names.specs)?;
-    let instances = load_model(alloc, shelf, names.model)?;
-    let phases = load_script(alloc, shelf, names.script)?;
-    Ok(Loaded {
-        specs,
-        instances,
-        phases,
-    })
-}
-
-/// The schema, of which only the length is looked at so far.
-fn load_schema<S: Shelf>(alloc: Global, shelf: &mut S, name: &str) -> Result<(), Stop>
+/// The table of the schema that the input declares.
+pub fn load_schema<S: Shelf>(alloc: Global, shelf: &mut S, name: &str) -> Result<SchemaTable, Stop>
     ensures shelf { LeavesShelf (S.held shelf.old) (S.held shelf.new) (S.faults shelf.old)
         (S.faults shelf.new) result }
     ensures steady { StaysSteady (S.steady shelf.old) (S.steady shelf.new) (S.faults shelf.old)
         (S.faults shelf.new) (S.steady shelf.old (chars name.now) → IsMissing (S.held shelf.old) (chars name.now)) result }
-    ensures reads { Reads (IsInput (S.held shelf.old) (S.reads shelf.old) (S.reads shelf.new) name.now limit)
+    ensures reads { Reads (λ schema. schema) (IsInput (S.held shelf.old) (S.reads shelf.old) (S.reads shelf.new) name.now limit)
         schema_read result }
     ensures stopped { Stopped (IsCut name.now limit (S.reads shelf.old) (S.reads shelf.new))
         (IsPart name.now limit (S.reads shelf.old) (S.reads shelf.new)) result }
 {
-    match whole_input(alloc, shelf, name, LIMIT)? {
-        Some(_) => Ok(()),
-        None => Err(Stop::Refused(Refused::TooLong(Input::Schema))),
+    let Some(bytes) = whole_input(alloc, shelf, name, LIMIT)? else {
+        return Err(Stop::Refused(Refused::TooLong(Input::Schema)));
+    };
+    match table_of(alloc, past_mark(bytes.as_slice())) {
+        Ok(read) => Ok(read),
+        Err(Refusal::Fault(refused)) => Err(Stop::Refused(refused)),
+        Err(Refusal::Memory) => Err(Stop::Memory),
     }
 }
 
-fn load_specs<S: Shelf>(alloc: Global, shelf: &mut S, name: &str) -> Result<Specifications, Stop>
+/// The table of the schema that the text declares.
+#[tactic(auto, unfolding(crate::specs::Forms::schema_of))]
+fn table_of(alloc: Global, text: &[u8]) -> Result<SchemaTable, Refusal<Refused>>
+    ensures { Answers (λ schema. schema) result (schema_of text.now) }
+{
+    let decls = match read_declarations(alloc, text) {
+        Ok(decls) => decls,
+        Err(Refusal::Fault(fault)) => return Err(Refusal::Fault(Refused::InDeclarations(fault))),
+        Err(Refusal::Memory) => return Err(Refusal::Memory),
+    };
+    match SchemaTable::build(alloc, decls.entities, decls.types) {
+        Ok(schema) => Ok(schema),
+        Err(Refusal::Fault(fault)) => Err(Refusal::Fault(Refused::InSchema(fault))),
+        Err(Refusal::Memory) => Err(Refusal::Memory),
+    }
+}
+
+/// The specifications, of which each facet is built.
+pub fn load_specs<S: Shelf>(
+    alloc: Global,
+    shelf: &mut S,
+    name: &str,
+) -> Result<Specifications, Stop>
     ensures shelf { LeavesShelf (S.held shelf.old) (S.held shelf.new) (S.faults shelf.old)
         (S.faults shelf.new) result }
     ensures steady { StaysSteady (S.steady shelf.old) (S.steady shelf.new) (S.faults shelf.old)
         (S.faults shelf.new) (S.steady shelf.old (chars name.now) → IsMissing (S.held shelf.old) (chars name.now)) result }
-    ensures reads { Reads (IsInput (S.held shelf.old) (S.reads shelf.old) (S.reads shelf.new) name.now limit)
+    ensures reads { Reads (λ specs. specs) (IsInput (S.held shelf.old) (S.reads shelf.old) (S.reads shelf.new) name.now limit)
         specs_read result }
     ensures stopped { Stopped (IsCut name.now limit (S.reads shelf.old) (S.reads shelf.new))
         (IsPart name.now limit (S.reads shelf.old) (S.reads shelf.new)) result }
-    ensures fit { IfOk result AreSpecifications }
+    ensures numbered { IfOk result AreSpecifications }
+    ensures built { IfOk result AreBuilt }
 {
     let Some(bytes) = whole_input(alloc, shelf, name, LIMIT)? else {
         return Err(Stop::Refused(Refused::TooLong(Input::Specs)));
     };
-    match read_specifications(alloc, past_mark(bytes.as_slice())) {
-        Ok(specs) => Ok(specs),
-        Err(Refusal::Fault(fault)) => Err(Stop::Refused(Refused::InSpecs(fault))),
+    match specifications_of(alloc, past_mark(bytes.as_slice())) {
+        Ok(read) => Ok(read),
+        Err(Refusal::Fault(refused)) => Err(Stop::Refused(refused)),
         Err(Refusal::Memory) => Err(Stop::Memory),
     }
 }
 
-fn load_model<S: Shelf>(alloc: Global, shelf: &mut S, name: &str) -> Result<Instances, Stop>
+/// The specifications of the text.
+#[tactic(auto, unfolding(crate::specs::Forms::specs_of))]
+fn specifications_of(alloc: Global, text: &[u8]) -> Result<Specifications, Refusal<Refused>>
+    ensures read { Answers (λ specs. specs) result (specs_of text.now) }
+    ensures numbered { IfOk result AreSpecifications }
+    ensures built { IfOk result AreBuilt }
+{
+    match read_specifications(alloc, text) {
+        Ok(specs) => Ok(specs),
+        Err(Refusal::Fault(fault)) => Err(Refusal::Fault(Refused::InSpecs(fault))),
+        Err(Refusal::Memory) => Err(Refusal::Memory),
+    }
+}
+
+/// A core over the model, without entries.
+pub fn load_model<'a, S: Shelf>(
+    alloc: Global,
+    shelf: &mut S,
+    name: &str,
+    schema: &'a SchemaTable,
+    specs: &'a [Specification],
+) -> Result<Core<'a>, Stop>
+    requires numbered { AreSpecifications specs.now }
+    requires built { AreBuilt specs.now }
     ensures shelf { LeavesShelf (S.held shelf.old) (S.held shelf.new) (S.faults shelf.old)
         (S.faults shelf.new) result }
     ensures steady { StaysSteady (S.steady shelf.old) (S.steady shelf.new) (S.faults shelf.old)
         (S.faults shelf.new) (S.steady shelf.old (chars name.now) → IsMissing (S.held shelf.old) (chars name.now)) result }
-    ensures reads { Reads (IsInput (S.held shelf.old) (S.reads shelf.old) (S.reads shelf.new) name.now model_limit)
-        model_read result }
+    ensures reads { Reads (λ core. core.ground) (IsInput (S.held shelf.old) (S.reads shelf.old) (S.reads shelf.new) name.now model_limit)
+        (model_read schema.now specs.now) result }
     ensures stopped { Stopped (IsCut name.now model_limit (S.reads shelf.old) (S.reads shelf.new))
         (IsPart name.now model_limit (S.reads shelf.old) (S.reads shelf.new)) result }
-    ensures distinct { IfOk result HasDistinctIds }
-    ensures few { IfOk result (λ instances. length instances ≤ instance_limit) }
+    ensures history { IfOk result (λ core. core.history ≡ []) }
+    ensures model { IfOk result (λ core. IsModel core.ground.first) }
+    ensures schema { IfOk result (λ core. core.ground.schema ≡ schema.now) }
+    ensures specs { IfOk result (λ core. core.ground.specs ≡ specs.now) }
+    ensures limits { IfOk result (λ core. core.ground.limits ≡ limits) }
 {
     let Some(bytes) = whole_input(alloc, shelf, name, MODEL_LIMIT)? else {
         return Err(Stop::Refused(Refused::TooLong(Input::Model)));
     };
-    match read_model(alloc, past_mark(bytes.as_slice()), INSTANCE_LIMIT) {
-        Ok(instances) => Ok(instances),
-        Err(Refusal::Fault(fault)) => Err(Stop::Refused(Refused::InModel(fault))),
+    match core_of(alloc, past_mark(bytes.as_slice()), schema, specs) {
+        Ok(read) => Ok(read),
+        Err(Refusal::Fault(refused)) => Err(Stop::Refused(refused)),
         Err(Refusal::Memory) => Err(Stop::Memory),
     }
 }
 
-fn load_script<S: Shelf>(alloc: Global, shelf: &mut S, name: &str) -> Result<Phases, Stop>
+/// A core over the model of the text, which is judged here: it has to fit the schema.
+#[tactic(auto, unfolding(crate::specs::Forms::model_of))]
+fn core_of<'a>(
+    alloc: Global,
+    text: &[u8],
+    schema: &'a SchemaTable,
+    specs: &'a [Specification],
+) -> Result<Core<'a>, Refusal<Refused>>
+    requires numbered { AreSpecifications specs.now }
+    requires built { AreBuilt specs.now }
+    ensures read { Answers (λ core. core.ground) result (model_of schema.now specs.now text.now) }
+    ensures history { IfOk result (λ core. core.history ≡ []) }
+    ensures model { IfOk result (λ core. IsModel core.ground.first) }
+    ensures schema { IfOk result (λ core. core.ground.schema ≡ schema.now) }
+    ensures specs { IfOk result (λ core. core.ground.specs ≡ specs.now) }
+    ensures limits { IfOk result (λ core. core.ground.limits ≡ limits) }
+{
+    let file = match read_file(alloc, text, INSTANCE_LIMIT) {
+        Ok(file) => file,
+        Err(Refusal::Fault(fault)) => return Err(Refusal::Fault(Refused::InFile(fault))),
+        Err(Refusal::Memory) => return Err(Refusal::Memory),
+    };
+    match Core::new(alloc, schema, specs, file, Limits::STANDARD) {
+        Ok(core) => Ok(core),
+        Err(Refusal::Fault(fault)) => Err(Refusal::Fault(Refused::InModel(fault))),
+        Err(Refusal::Memory) => Err(Refusal::Memory),
+    }
+}
+
+/// The phases of the script, whose lines are of editor 1 and may come in their order.
+pub fn load_script<S: Shelf>(alloc: Global, shelf: &mut S, name: &str) -> Result<Phases, Stop>
     ensures shelf { LeavesShelf (S.held shelf.old) (S.held shelf.new) (S.faults shelf.old)
         (S.faults shelf.new) result }
     ensures steady { StaysSteady (S.steady shelf.old) (S.steady shelf.new) (S.faults shelf.old)
         (S.faults shelf.new) (S.steady shelf.old (chars name.now) → IsMissing (S.held shelf.old) (chars name.now)) result }
-    ensures reads { Reads (IsInput (S.held shelf.old) (S.reads shelf.old) (S.reads shelf.new) name.now limit)
+    ensures reads { Reads (λ phases. phases) (IsInput (S.held shelf.old) (S.reads shelf.old) (S.reads shelf.new) name.now limit)
         script_read result }
     ensures stopped { Stopped (IsCut name.now limit (S.reads shelf.old) (S.reads shelf.new))
         (IsPart name.now limit (S.reads shelf.old) (S.reads shelf.new)) result }
@@ -138,10 +190,23 @@ fn load_script<S: Shelf>(alloc: Global, shelf: &mut S, name: &str) -> Result<Pha
     let Some(bytes) = whole_input(alloc, shelf, name, LIMIT)? else {
         return Err(Stop::Refused(Refused::TooLong(Input::Script)));
     };
-    match read_script(alloc, past_mark(bytes.as_slice())) {
-        Ok(phases) => Ok(phases),
-        Err(Refusal::Fault(fault)) => Err(Stop::Refused(Refused::InScript(fault))),
+    match phases_of(alloc, past_mark(bytes.as_slice())) {
+        Ok(read) => Ok(read),
+        Err(Refusal::Fault(refused)) => Err(Stop::Refused(refused)),
         Err(Refusal::Memory) => Err(Stop::Memory),
+    }
+}
+
+/// The phases of the text.
+#[tactic(auto, unfolding(crate::specs::Forms::script_of))]
+fn phases_of(alloc: Global, text: &[u8]) -> Result<Phases, Refusal<Refused>>
+    ensures read { Answers (λ phases. phases) result (script_of text.now) }
+    ensures order { IfOk result (AreOrderly 1) }
+{
+    match read_script(alloc, text) {
+        Ok(phases) => Ok(phases),
+        Err(Refusal::Fault(fault)) => Err(Refusal::Fault(Refused::InScript(fault))),
+        Err(Refusal::Memory) => Err(Refusal::Memory),
     }
 }
 
@@ -172,7 +237,7 @@ fn whole_input<S: Shelf>(
 }
 
 /// What stands behind a byte order mark, if there is one.
-#[tactic(auto, unfolding(crate::specs::Inputs::past_mark))]
+#[tactic(auto, unfolding(crate::specs::Forms::past_mark))]
 fn past_mark(bytes: &[u8]) -> &[u8]
     ensures { result.now ≡ past_mark bytes.now }
 {

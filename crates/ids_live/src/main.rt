@@ -7,9 +7,13 @@ mod ending;
 mod load;
 mod play;
 mod refused;
+#[cfg(test)]
+mod rows;
 mod stop;
 #[cfg(test)]
 mod tests;
+#[cfg(test)]
+mod texts;
 mod top;
 mod words;
 

@@ -1,41 +1,46 @@
-//! The run over loaded inputs, and the line of a refused one.
+//! The run over inputs that were read, and the line of a refused one.
 ghost use Rattle.std.specs.Prelude.{◌≡◌, [], ◌∷◌, Ok, Err, IsTrue, length};
-ghost use Rattle.ids_live.specs.Fitness.{IsFit};
 ghost use Rattle.ids_live.specs.Complete.{wanted};
+ghost use Rattle.ids_live.specs.Fitness.{IsFit};
+ghost use Rattle.ids_live.specs.Forms.{loaded};
 ghost use Rattle.ids_live.specs.Run.{At, IsEndOf, IsSinkAfter, is_among};
 ghost use Rattle.ids_live.specs.Steps.{status_at};
 
 use crate::ending::Ended;
-use crate::load::Loaded;
 use crate::refused::{Refused, refused_line};
 use audit_core::{Core, CoreJournal};
-use audit_model::Limits;
+use audit_model::{Limits, Phases, Specification};
 use audit_run::PlainEvaluator;
+use schema_table::SchemaTable;
 use serial_run::{End, full_is_long, run_script, script_is_phased, stop_is_phased};
 use shelf_io::{Sink, write_all};
 use std::alloc::Global;
 
-/// Runs the script on the model that was loaded, and writes its output.
-pub fn play<K: Sink>(alloc: Global, out: &mut K, loaded: Loaded) -> Ended
-    requires { IsFit loaded }
+/// Runs the script on a core without entries over this schema and these specifications, and writes its
+/// output.
+pub fn play<K: Sink>(
+    alloc: Global,
+    out: &mut K,
+    schema: &SchemaTable,
+    specs: &[Specification],
+    core: Core,
+    phases: Phases,
+) -> Ended
+    requires fresh { core.history ≡ [] }
+    requires schema { core.ground.schema ≡ schema.now }
+    requires specs { core.ground.specs ≡ specs.now }
+    requires fit { IsFit core.ground phases }
     ensures status { IsTrue (is_among (0 ∷ 1 ∷ 4 ∷ 5 ∷ 7 ∷ []) result.status) }
     ensures sink { IsSinkAfter (K.faults out.old) (K.faults out.new) result }
-    ensures ends { IsEndOf (Ok loaded) (K.written out.old) (K.written out.new) result }
-    ensures sure { At (4 ∷ []) result.status (K.sure out.old (length (wanted (Ok loaded))) → ⊥) }
+    ensures ends { IsEndOf (loaded core.entry.ground (Ok phases)) (K.written out.old) (K.written out.new) result }
+    ensures sure { At (4 ∷ []) result.status
+        (K.sure out.old (length (wanted (loaded core.entry.ground (Ok phases)))) → ⊥) }
     ensures lapsed { result.lapsed ≡ 0 }
 {
     script_is_phased();
     stop_is_phased();
     full_is_long();
-    let Loaded {
-        specs,
-        instances,
-        phases,
-    } = loaded;
-    let evaluator = PlainEvaluator::new(specs.as_slice());
-    let Ok(core) = Core::new(alloc, specs.as_slice(), instances, Limits::STANDARD) else {
-        return ended(alloc, 5);
-    };
+    let evaluator = PlainEvaluator::new(schema, specs);
     let ran = run_script(alloc, core, &evaluator, &Limits::STANDARD, phases, out);
     Ended {
         status: status_of(ran.end),
@@ -58,11 +63,11 @@ fn status_of(end: End) -> u8
 }
 
 /// Writes the line of a refused input.
-pub fn refuse<K: Sink>(alloc: Global, out: &mut K, refused: Refused) -> Ended
+pub fn refuse<K: Sink>(alloc: Global, out: &mut K, refused: &Refused) -> Ended
     ensures status { IsTrue (is_among (2 ∷ 4 ∷ 5 ∷ []) result.status) }
     ensures sink { IsSinkAfter (K.faults out.old) (K.faults out.new) result }
-    ensures ends { IsEndOf (Err refused) (K.written out.old) (K.written out.new) result }
-    ensures sure { At (4 ∷ []) result.status (K.sure out.old (length (wanted (Err refused))) → ⊥) }
+    ensures ends { IsEndOf (Err refused.now) (K.written out.old) (K.written out.new) result }
+    ensures sure { At (4 ∷ []) result.status (K.sure out.old (length (wanted (Err refused.now))) → ⊥) }
     ensures lapsed { result.lapsed ≡ 0 }
 {
     let Ok(line) = refused_line(alloc, refused) else {

@@ -5,7 +5,7 @@ use ifc_base::Refusal;
 use shelf_io::Failed;
 
 /// Why the inputs were not loaded.
-#[derive(Clone, Copy, Debug, PartialEq, Eq)]
+#[derive(Debug, PartialEq, Eq, Drop)]
 pub enum Stop {
     /// The shelf failed.
     Shelf,

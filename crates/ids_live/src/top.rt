@@ -1,17 +1,20 @@
-ghost use Rattle.std.specs.Prelude.{◌≡◌, ◌<◌, ◌↔◌, [], ◌∷◌, None, map, length, string_bytes, IfSome};
+ghost use Rattle.std.specs.Prelude.{◌≡◌, ◌<◌, ◌↔◌, [], ◌∷◌, None, map, length, string_bytes, IfErr, IfOk, IfSome, IsTrue};
 ghost use Rattle.shelf_io.specs.Causes.{Rose};
-ghost use Rattle.ids_live.specs.Inputs.{Inputs, loaded_of};
+ghost use Rattle.ids_live.specs.Course.{IsPast, Replays};
+ghost use Rattle.ids_live.specs.Forms.{loaded_of};
+ghost use Rattle.ids_live.specs.Inputs.{Inputs};
 ghost use Rattle.ids_live.specs.Reading.{AreInputs};
-ghost use Rattle.ids_live.specs.Run.{At, IsRun, IsUntouched, IsShelfAfter, IsSinkAfter};
+ghost use Rattle.ids_live.specs.Run.{At, IsRun, IsUntouched, IsShelfAfter, IsSinkAfter, is_among};
+ghost use Rattle.ids_live.specs.Stops.{LeavesShelf, StaysSteady};
 ghost use Rattle.ids_live.specs.Complete.{IsComplete, IsSure, wanted};
 ghost use Rattle.ids_live.specs.Told.{AreTold, AreSteady, IsUnsteady};
-ghost use Rattle.ids_live.specs.Words.{command_of};
+ghost use Rattle.ids_live.specs.Words.{command_of, command_shown};
 
 use crate::ending::Ended;
-use crate::load::load;
+use crate::load::{load_model, load_schema, load_script, load_specs};
 use crate::play::{ended, play, refuse};
 use crate::stop::Stop;
-use crate::words::names_in;
+use crate::words::{Names, names_in};
 use shelf_io::{Shelf, Sink};
 use std::alloc::Global;
 
@@ -76,10 +79,42 @@ fn run<H: Shelf, O: Sink>(alloc: Global, words: &[String], shelf: &mut H, out: &
     let Some(names) = names_in(words) else {
         return ended(alloc, 6);
     };
-    match load(alloc, shelf, names) {
-        Ok(loaded) => play(alloc, out, loaded),
-        Err(Stop::Refused(refused)) => refuse(alloc, out, refused),
+    match replay(alloc, shelf, out, names) {
+        Ok(ended) => ended,
+        Err(Stop::Refused(refused)) => refuse(alloc, out, &refused),
         Err(Stop::Shelf) => ended(alloc, 3),
         Err(Stop::Memory) => ended(alloc, 5),
+    }
+}
+
+/// Reads the inputs in their order, up to the first that is refused, and runs the script on the model.
+/// The model is judged before the script is read.
+fn replay<H: Shelf, O: Sink>(
+    alloc: Global,
+    shelf: &mut H,
+    out: &mut O,
+    names: Names,
+) -> Result<Ended, Stop>
+    ensures shelf { LeavesShelf (H.held shelf.old) (H.held shelf.new) (H.faults shelf.old)
+        (H.faults shelf.new) result }
+    ensures steady { StaysSteady (H.steady shelf.old) (H.steady shelf.new) (H.faults shelf.old)
+        (H.faults shelf.new) (IsUnsteady (H.held shelf.old) (H.steady shelf.old) (command_shown names.entry)) result }
+    ensures replays { Replays (H.held shelf.old) (H.reads shelf.old) (H.reads shelf.new) (command_shown names.entry)
+        (IsPast (O.written out.old) (O.written out.new) (O.sure out.old)) result }
+    ensures status { IfOk result (λ ended. IsTrue (is_among (0 ∷ 1 ∷ 4 ∷ 5 ∷ 7 ∷ []) ended.status)) }
+    ensures sink { IfOk result (λ ended. IsSinkAfter (O.faults out.old) (O.faults out.new) ended) }
+    ensures lapsed { IfOk result (λ ended. ended.lapsed ≡ 0) }
+    ensures silent { IfErr result (λ stop. out.new ≡ out.old) }
+{
+    let schema = load_schema(alloc, shelf, names.schema)?;
+    let specifications = load_specs(alloc, shelf, names.specs)?;
+    let specs = specifications.as_slice();
+    let core = load_model(alloc, shelf, names.model, &schema, specs)?;
+    match load_script(alloc, shelf, names.script) {
+        Ok(phases) => Ok(play(alloc, out, &schema, specs, core, phases)),
+        Err(stop) => {
+            core.into_journal();
+            Err(stop)
+        }
     }
 }

@@ -1,3 +1,5 @@
-pub mod Places
+pub mod TreeModels
+pub mod Putting
 pub mod Doing
-pub mod Changed
+pub mod Least
+pub mod Covering

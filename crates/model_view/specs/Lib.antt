@@ -1,3 +1,3 @@
 pub mod Views
-pub mod Places
-pub mod Changed
+pub mod Trees
+pub mod Dangles

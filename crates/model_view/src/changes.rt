@@ -1,76 +1,58 @@
-ghost use Rattle.std.specs.Prelude.{◌≡◌, [], ◌∷◌, ◌++◌, if◌then◌else◌, IfOk, OnOk};
-ghost use Rattle.std.specs.List.{list_any};
-ghost use Rattle.audit_model.specs.Models.{IsModel};
+ghost use Rattle.std.specs.Prelude.{◌≡◌, ◌||◌, IfOk, OnOk};
+ghost use Rattle.ifc_base.specs.declared.key.Key.{Key};
+ghost use Rattle.audit_model.specs.Models.{instance_at};
 ghost use Rattle.audit_model.specs.Edits.{edit_id};
 ghost use Rattle.audit_model.specs.Keys.{changes};
-ghost use Rattle.model_view.specs.Changed.{changed_keys};
+ghost use Rattle.inverse_index.specs.Index.{has_key};
+ghost use Rattle.inverse_index.specs.Changed.{changed_at, KeysAscend};
+ghost use Rattle.model_view.specs.Dangles.{KeepsOthers};
 
-use crate::list::instance_in;
-use crate::shared::SharedInstance;
+use crate::attribute::id_of;
+use crate::indexed::Indexed;
 use audit_model::Edit;
-use ifc_base::{InstId, Key, Keys, Memory};
+use ifc_base::{Key, Keys, Memory};
+use inverse_index::{ascending_keys, push_changed};
+use schema_table::SchemaTable;
 use std::alloc::Global;
 
-/// The id that the edit names.
-fn id_of(edit: &Edit) -> InstId
-    ensures { result ≡ edit_id edit.now }
-{
-    match edit {
-        Edit::Add(instance) => instance.id,
-        Edit::Set { id, .. } => *id,
-        Edit::Remove(id) => *id,
-    }
-}
-
-/// Whether the instances of this id differ.
-#[tactic(auto, unfolding(audit_model::specs::Keys::changes))]
-fn differs(old: &[SharedInstance], new: &[SharedInstance], id: InstId) -> bool
-    requires old { IsModel old.now }
-    requires new { IsModel new.now }
-    ensures { result ≡ changes old.now new.now (Key.Inst id) }
-{
-    match (instance_in(old, id), instance_in(new, id)) {
-        (None, None) => false,
-        (Some(before), Some(after)) => *before != *after,
-        _ => true,
-    }
-}
-
-/// Adds the key of this id, where its instances differ.
-fn add_key(
-    keys: &mut Keys,
-    old: &[SharedInstance],
-    new: &[SharedInstance],
-    id: InstId,
-) -> Result<(), Memory>
-    requires old { IsModel old.now }
-    requires new { IsModel new.now }
-    ensures { OnOk result (keys.new ≡ keys.old ++ (if changes old.now new.now (Key.Inst id) then Key.Inst id
-        ∷ [] else [])) }
-{
-    if !differs(old, new, id) {
-        return Ok(());
-    }
-    match keys.push(Key::Inst(id)) {
-        Ok(()) => Ok(()),
-        Err(_) => Err(Memory),
-    }
-}
-
-/// The keys of these edits that differ.
-pub fn keys_of(
+/// Adds the keys that change at the id which the edit names.
+fn push_at(
     alloc: Global,
-    old: &[SharedInstance],
-    new: &[SharedInstance],
+    schema: &SchemaTable,
+    old: &Indexed,
+    new: &Indexed,
+    edit: &Edit,
+    out: &mut Vec<Key>,
+) -> Result<(), Memory>
+    ensures { OnOk result ((k : Key) → has_key out.new.items k ≡ (has_key out.old.items k || changed_at schema.now (edit_id edit.now) (instance_at (edit_id edit.now) old.now.model) (instance_at (edit_id edit.now) new.now.model) k)) }
+{
+    let id = id_of(edit);
+    let before = old.instance(id);
+    let after = new.instance(id);
+    push_changed(alloc, schema, id, before, after, out)?;
+    Ok(())
+}
+
+/// The keys whose contents differ in the two models, of which the new one has at each id that no edit names what
+/// the old one has: ascending and each once. An edit that a later one takes back changes nothing. `O(n log n)`
+/// in the size of the instances that the edits name, as they were and as they are.
+pub(crate) fn changed_keys(
+    alloc: Global,
+    schema: &SchemaTable,
+    old: &Indexed,
+    new: &Indexed,
     edits: &[Edit],
 ) -> Result<Keys, Memory>
-    requires old { IsModel old.now }
-    requires new { IsModel new.now }
-    ensures { IfOk result (λ keys. keys ≡ changed_keys old.now new.now edits.now) }
+    requires { KeepsOthers edits.now old.now.model new.now.model }
+    ensures changed { IfOk result (λ keys. (k : Key) → has_key keys k ≡ changes schema.now old.now.model new.now.model k) }
+    ensures ascending { IfOk result (λ keys. KeysAscend keys) }
 {
-    let mut keys = Keys::new(alloc);
+    old.ascends();
+    new.ascends();
+    let mut keys = Vec::new(alloc);
     for edit in edits {
-        add_key(&mut keys, old, new, id_of(edit))?;
+        push_at(alloc, schema, old, new, edit, &mut keys)?;
     }
+    let keys = ascending_keys(alloc, keys.as_slice())?;
     Ok(keys)
 }

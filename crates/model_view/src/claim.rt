@@ -15,12 +15,14 @@ pub struct Claim {
 
 impl Model for Claim {
     ghost use Rattle.model_view.specs.Views.{ClaimView};
-    ghost use Rattle.std.specs.Coded.{codes};
+    ghost use Rattle.std.specs.Coded.{codes, coded_ℕ, coded_list};
+    ghost use Rattle.std.specs.FinMap as map;
+    ghost use Rattle.std.specs.Ordering.{nat_cmp};
     ghost use Rattle.ifc_base.specs.contracts.value.Value as value;
 
     ghost Value = { ClaimView };
 
-    ghost coded = { Prim.hlevel (codes, value.the_row.coded) };
+    ghost coded = { Prim.hlevel (codes, value.the_row.coded, map.code {R = nat_cmp} coded_ℕ (coded_list coded_ℕ)) };
 
     ghost view = { λ claim. record { number = claim.number; pair = claim.pair; snapshot = claim.snapshot } };
 }
@@ -84,12 +86,14 @@ pub struct Finding {
 
 impl Model for Finding {
     ghost use Rattle.model_view.specs.Views.{FindingView};
-    ghost use Rattle.std.specs.Coded.{codes};
+    ghost use Rattle.std.specs.Coded.{codes, coded_ℕ, coded_list};
+    ghost use Rattle.std.specs.FinMap as map;
+    ghost use Rattle.std.specs.Ordering.{nat_cmp};
     ghost use Rattle.ifc_base.specs.contracts.value.Value as value;
 
     ghost Value = { FindingView };
 
-    ghost coded = { Prim.hlevel (codes, value.the_row.coded) };
+    ghost coded = { Prim.hlevel (codes, value.the_row.coded, map.code {R = nat_cmp} coded_ℕ (coded_list coded_ℕ)) };
 
     ghost view = { λ finding. record { claim = finding.claim; verdict = finding.verdict; needs = finding.needs } };
 }

@@ -15,12 +15,14 @@ pub struct Draft {
 
 impl Model for Draft {
     ghost use Rattle.model_view.specs.Views.{DraftView};
-    ghost use Rattle.std.specs.Coded.{codes};
+    ghost use Rattle.std.specs.Coded.{codes, coded_ℕ, coded_list};
+    ghost use Rattle.std.specs.FinMap as map;
+    ghost use Rattle.std.specs.Ordering.{nat_cmp};
     ghost use Rattle.ifc_base.specs.contracts.value.Value as value;
 
     ghost Value = { DraftView };
 
-    ghost coded = { Prim.hlevel (codes, value.the_row.coded) };
+    ghost coded = { Prim.hlevel (codes, value.the_row.coded, map.code {R = nat_cmp} coded_ℕ (coded_list coded_ℕ)) };
 
     ghost view = { λ draft. record { base = draft.base; edits = draft.edits } };
 }

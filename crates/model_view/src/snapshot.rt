@@ -1,97 +1,86 @@
-ghost use Rattle.std.specs.Prelude.{◌≡◌, ◌+◌, ◌<◌, IfOk};
-ghost use Rattle.std.specs.List.{list_any};
+ghost use Rattle.std.specs.Prelude.{◌≡◌, ℕ, ◌+◌, ◌<◌, length, map, IfOk};
 ghost use Rattle.std.specs.Option.{option_copied};
 ghost use Rattle.ifc_base.specs.declared.key.Key.{Key};
-ghost use Rattle.ifc_base.specs.KeyOrder.{key_eq};
-ghost use Rattle.audit_model.specs.Models.{HasDistinctIds, model_of_file, instance_at};
+ghost use Rattle.ifc_base.specs.declared.value.Instance.{Instance};
+ghost use Rattle.audit_model.specs.Models.{HasDistinctIds, IsModel, model_of_file};
 ghost use Rattle.audit_model.specs.Edits.{apply};
-ghost use Rattle.audit_model.specs.Keys.{changes};
-ghost use Rattle.model_view.specs.Views.{AreAccepted};
+ghost use Rattle.audit_model.specs.Keys.{changes, holders};
+ghost use Rattle.inverse_index.specs.Index.{has_key, Indexes};
+ghost use Rattle.inverse_index.specs.Changed.{KeysAscend};
+ghost use Rattle.model_view.specs.Views.{AreAccepted, IsSnapshotOf, seen_in, ShowsItsModel};
 
-use crate::changes::keys_of;
-use crate::edits::edited_list;
-use crate::list::instance_in;
-use crate::shared::SharedInstance;
+use crate::changes::changed_keys;
+use crate::editing::{Editing, with_all};
+use crate::indexed::Indexed;
 use audit_model::{Edits, in_order};
-use ifc_base::{InstId, Instance, Instances, Keys, Listed, Memory};
+use ifc_base::{InstId, Instance, Instances, Keys, Memory, Role};
+use schema_table::SchemaTable;
 use std::alloc::Global;
 use std::marker::Model;
-use std::sync::Arc;
+use tree_map::Walk;
 
-/// The model of a revision: its instances in ascending id. Snapshots share their list, and the lists
-/// of revisions share the instances that both have. Contracts see the model and the revision.
+/// The model of a revision, and its index. Snapshots of revisions share all but what the commits between them
+/// changed. Contracts see the model, the lists of the index and the revision.
 #[derive(Drop)]
 pub struct Snapshot {
-    list: Arc<Listed<SharedInstance>, Global>,
+    content: Indexed,
     revision: u32,
 }
 
 impl Model for Snapshot {
     ghost use Rattle.model_view.specs.Views.{SnapshotView};
-    ghost use Rattle.std.specs.Arc.{arc_value};
-    ghost use Rattle.audit_model.specs.Models.{IsModel};
-    ghost use Rattle.std.specs.Coded.{codes};
+    ghost use Rattle.std.specs.Ordering.{nat_cmp};
+    ghost use Rattle.std.specs.Coded.{codes, coded_ℕ, coded_list};
+    ghost use Rattle.std.specs.FinMap as map;
     ghost use Rattle.ifc_base.specs.contracts.value.Value as value;
 
     ghost Value = { SnapshotView };
 
-    ghost coded = { Prim.hlevel (codes, value.the_row.coded) };
+    ghost coded = { Prim.hlevel (codes, value.the_row.coded, map.code {R = nat_cmp} coded_ℕ (coded_list coded_ℕ)) };
 
-    ghost view = { λ snapshot. record { model = arc_value snapshot.list; revision = snapshot.revision } };
-
-    ghost invariant = { λ snapshot. IsModel (arc_value snapshot.list) };
+    ghost view = { λ s. record { model = s.content.model; lists = s.content.lists; revision = s.revision } };
 }
 
 impl Snapshot {
-    /// The snapshot of revision 0: the model of a file with these instances, whose ids are distinct.
-    /// `O(n log n)` in their number.
-    pub fn first(alloc: Global, instances: Instances) -> Result<Snapshot, Memory>
+    /// The snapshot of revision 0: the model of a file with these instances, whose ids are distinct, and its
+    /// index under the schema. `O(n log n)` in the size of the instances.
+    pub fn first(
+        alloc: Global,
+        schema: &SchemaTable,
+        instances: Instances,
+    ) -> Result<Snapshot, Memory>
         requires { HasDistinctIds instances }
-        ensures { IfOk result (λ snapshot. snapshot ≡ record { model = model_of_file instances; revision = 0 }) }
+        ensures { IfOk result (λ first. IsSnapshotOf schema.now (model_of_file instances) 0 first) }
     {
         let model = in_order(instances)?;
-        let list = share_all(alloc, model)?;
-        match Arc::new(alloc, list) {
-            Ok(list) => Ok(Snapshot { list, revision: 0 }),
-            Err(_) => Err(Memory),
-        }
+        let content = Indexed::of(alloc, schema, model)?;
+        Ok(Snapshot {
+            content,
+            revision: 0,
+        })
     }
 
-    /// The next revision, and the keys that the edits change: those whose contents differ. The edits
-    /// have to be accepted at the model: edit by edit, on the model with the edits before it done, the
-    /// id to add is new, and an instance of the id to remove is there. The revision has to be below
-    /// 4,294,967,295.
-    ///
-    /// It copies the list once, but no instance but the added ones: `O(n)` for `n` instances, and for
-    /// each edit `O(log n)` comparisons and the move of what stands behind it in the list.
-    pub fn with_edits(&self, alloc: Global, edits: &Edits) -> Result<(Snapshot, Keys), Memory>
-        requires accepted { AreAccepted self.now.model edits.now }
-        requires below { self.now.revision < 4294967295 }
-        ensures next { IfOk result
-            (λ made. made.0 ≡ record { model = apply self.now.model edits.now; revision = self.now.revision + 1 }) }
-        ensures changed { IfOk result (λ made. (k : Key) → list_any
-            (λ j. key_eq j k) made.1 ≡ changes self.now.model made.0.model k) }
-    {
-        let now = self.list.as_slice();
-        let list = edited_list(alloc, now, edits.as_slice())?;
-        let keys = keys_of(alloc, now, list.as_slice(), edits.as_slice())?;
-        match Arc::new(alloc, list) {
-            Ok(list) => {
-                let next = Snapshot {
-                    list,
-                    revision: self.revision + 1,
-                };
-                Ok((next, keys))
-            }
-            Err(_) => Err(Memory),
-        }
-    }
-
-    /// The instance with this id, if there is one. `O(log n)` for `n` instances.
+    /// The instance with this id, if there is one. `O(1)`.
     pub fn instance(&self, id: InstId) -> Option<&Instance>
-        ensures { option_copied result ≡ instance_at id self.now.model }
+        ensures { option_copied result ≡ (seen_in self.now).instance id }
     {
-        instance_in(self.list.as_slice(), id)
+        self.content.instance(id)
+    }
+
+    /// The ids of the instances that refer to this id by the role, ascending; there need be no instance of this
+    /// id. `O(1)`.
+    pub fn referrers(&self, id: InstId, role: Role) -> &[InstId]
+        ensures { result.now ≡ (seen_in self.now).referrers id role }
+    {
+        self.content.referrers(id, role)
+    }
+
+    /// The ids of the instances that hold a reference to this id anywhere within their parameters, ascending;
+    /// there need be no instance of this id. `O(1)`.
+    pub fn holders(&self, id: InstId) -> &[InstId]
+        ensures { result.now ≡ holders self.now.model id }
+    {
+        self.content.holders(id)
     }
 
     /// The revision, from 0.
@@ -101,37 +90,88 @@ impl Snapshot {
         self.revision
     }
 
-    /// The instances of the model, in ascending id.
-    pub fn instances(&self) -> &[SharedInstance]
-        ensures { result.now ≡ self.now.model }
+    /// How many instances there are. `O(1)`.
+    pub fn len(&self) -> usize
+        ensures { result ≡ length self.now.model }
     {
-        self.list.as_slice()
+        self.content.len()
     }
 
-    /// An equal snapshot, which shares the list. `O(1)`.
+    /// The instances with their ids, in ascending id. It takes 16 bytes for each, and copies none: `O(n)`.
+    pub fn walk(&self, alloc: Global) -> Result<Walk<'_, Instance>, Memory>
+        ensures { IfOk result (λ walk. map (λ (e : ℕ × Instance). e.1) walk ≡ self.now.model) }
+    {
+        self.content.walk(alloc)
+    }
+
+    /// The ids ascend.
+    pub fn ascends(&self)
+        ensures { IsModel self.now.model }
+    {
+        self.content.ascends();
+    }
+
+    /// An equal snapshot over the same memory. `O(1)`.
     pub fn share(&self) -> Result<Snapshot, Memory>
-        ensures { IfOk result (λ snapshot. snapshot ≡ self.now) }
+        ensures { IfOk result (λ same. same ≡ self.now) }
     {
-        match Arc::try_clone(&self.list) {
-            Ok(list) => Ok(Snapshot {
-                list,
-                revision: self.revision,
-            }),
-            Err(_) => Err(Memory),
-        }
+        let content = self.content.share()?;
+        Ok(Snapshot {
+            content,
+            revision: self.revision,
+        })
+    }
+
+    /// The model, to do edits on with look-ups between them. This snapshot stays as it is. `O(1)`.
+    pub fn editing(&self) -> Result<Editing, Memory>
+        ensures model { IfOk result (λ editing. editing.model ≡ self.now.model) }
+        ensures lists { IfOk result (λ editing. editing.lists ≡ self.now.lists) }
+    {
+        Editing::of(&self.content)
+    }
+
+    /// The next revision, and the keys that the edits change as a whole: those whose contents differ, ascending
+    /// and each once. An edit that a later one takes back changes nothing. This snapshot stays as it is. The
+    /// edits have to be accepted at its model: edit by edit, on the model with the edits before it done, the id
+    /// to add is new, an instance of the id to set or remove is there, its entity has the attribute to set, and
+    /// what is added or changed fits the schema. Its revision has to be below 4,294,967,295.
+    ///
+    /// For each edit `O(n log n)` in the size of its instance, and besides 4 bytes for each id of each list that
+    /// the instance comes to or goes from.
+    pub fn with_edits(
+        &self,
+        alloc: Global,
+        schema: &SchemaTable,
+        edits: &Edits,
+    ) -> Result<(Snapshot, Keys), Memory>
+        requires accepted { AreAccepted schema.now self.now.model edits.now }
+        requires below { self.now.revision < 4294967295 }
+        ensures model { IfOk result (λ made. made.0.model ≡ apply schema.now self.now.model edits.now) }
+        ensures revision { IfOk result (λ made. made.0.revision ≡ self.now.revision + 1) }
+        ensures index { IfOk result (λ made. Indexes schema.now self.now.model self.now.lists → Indexes schema.now made.0.model made.0.lists) }
+        ensures changed { IfOk result (λ made. (k : Key) → has_key made.1 k ≡ changes schema.now self.now.model made.0.model k) }
+        ensures ascending { IfOk result (λ made. KeysAscend made.1) }
+    {
+        let content = with_all(&self.content, alloc, schema, edits.as_slice())?;
+        let keys = changed_keys(alloc, schema, &self.content, &content, edits.as_slice())?;
+        let next = Snapshot {
+            content,
+            revision: self.revision + 1,
+        };
+        Ok((next, keys))
+    }
+
+    /// The model and its index.
+    pub(crate) fn content(&self) -> &Indexed
+        ensures model { result.now.model ≡ self.now.model }
+        ensures lists { result.now.lists ≡ self.now.lists }
+    {
+        &self.content
     }
 }
 
-/// The instances, each to be shared.
-fn share_all(alloc: Global, instances: Instances) -> Result<Listed<SharedInstance>, Memory>
-    ensures { IfOk result (λ list. list ≡ instances) }
-{
-    let mut list = Listed::new(alloc);
-    for instance in instances.into_vec() {
-        let shared = SharedInstance::new(alloc, instance)?;
-        if list.push(shared).is_err() {
-            return Err(Memory);
-        }
-    }
-    Ok(list)
-}
+/// A snapshot whose lists are the index of its model under a schema shows what can be looked at in that model
+/// under that schema.
+pub fn shows_its_model()
+    ensures { ShowsItsModel }
+{}

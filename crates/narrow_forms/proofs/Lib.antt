@@ -1,10 +1,6 @@
 pub mod Tools
 pub mod ReadSteps
 pub mod CutLemmas
-pub mod LineLemmas
-pub mod ModelLemmas
-pub mod LineLaws
-pub mod FileLaws
 pub mod MemberLemmas
 pub mod FormLemmas
 pub mod NamesLemmas

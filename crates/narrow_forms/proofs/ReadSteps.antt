@@ -1,6 +1,6 @@
 -- Steps of the readers of whole files that did not fail.
 use Rattle.std.proofs.Common.{◌≡◌, ℕ, List, Ok, Err, refl}
-use Rattle.narrow_forms.specs.Model.{Read, ◌>>=◌, with_line}
+use Rattle.narrow_forms.specs.Reads.{Read, ◌>>=◌, with_line}
 
 abbrev pub done : {A : Type 0} → A → Read A
 done x = Ok x

@@ -15,7 +15,7 @@ use Rattle.narrow_forms.specs.declared.script_line.Meaning.{Meaning}
 use Rattle.narrow_forms.specs.declared.script_line.Meaning.TheVariants.{Nothing, Does, Ends}
 use Rattle.narrow_forms.specs.Answers.{Answers}
 use Rattle.narrow_forms.specs.Lines.{Lines, cut, left, line}
-use Rattle.narrow_forms.specs.Model.{Read}
+use Rattle.narrow_forms.specs.Reads.{Read}
 use Rattle.narrow_forms.specs.ScriptLine.{line_meaning, without_return}
 use Rattle.narrow_forms.specs.Script.{fresh, edits_after, with_act, act_step, with_phase, end_step, line_step, after_line, read_at, script_lines, finished, script, script_reading}
 

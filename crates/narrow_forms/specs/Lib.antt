@@ -1,7 +1,6 @@
 pub mod Lines
-pub mod InstanceLine
-pub mod Model
-pub mod ModelFile
+pub mod Number
+pub mod Reads
 pub mod Answers
 pub mod ScriptLine
 pub mod Script

@@ -10,7 +10,7 @@ use Rattle.narrow_forms.specs.declared.script_line.Meaning.{Meaning}
 use Rattle.narrow_forms.specs.declared.script_line.Meaning.TheVariants.{Nothing, Does, Ends}
 use Rattle.narrow_forms.specs.Lines.{Lines, cut}
 use Rattle.narrow_forms.specs.Lines.Lines.{left, line}
-use Rattle.narrow_forms.specs.Model.{Read, ◌>>=◌, with_line}
+use Rattle.narrow_forms.specs.Reads.{Read, ◌>>=◌, with_line}
 use Rattle.narrow_forms.specs.ScriptLine.{line_meaning, without_return}
 
 -- before the first line: nothing is written, no draft is open and nothing is held

@@ -1,11 +1,14 @@
 -- What one line of a script says.
 use Rattle.std.specs.Prelude.{ℕ, ◌-◌, List, [], ◌∷◌, ◌++◌, length, take, drop, Option, Some, None, option_map, option_and_then, ◌==◌, nat_eq, nat_lt, codes, if◌then◌else◌}
-use Rattle.std.specs.List.{ends_with}
+use Rattle.std.specs.Option.{option_or}
+use Rattle.std.specs.Result.{result_ok}
 use Rattle.std.specs.Str.{bytes_eq}
 use Rattle.audit_model.specs.declared.commit.Edit.TheVariants.{Add, Remove}
 use Rattle.audit_model.specs.declared.script.Act.{Act}
 use Rattle.audit_model.specs.declared.script.Act.TheVariants.{Begin, Change, Commit, Publish, Take, Give, Work}
-use Rattle.narrow_forms.specs.InstanceLine.{instance_of, number_of}
+use Rattle.ifc_base.specs.declared.value.Instance.{Instance}
+use Rattle.p21_read.specs.Readings.{instance_reading}
+use Rattle.narrow_forms.specs.Number.{number_of}
 use Rattle.narrow_forms.specs.declared.script_line.Meaning.{Meaning}
 use Rattle.narrow_forms.specs.declared.script_line.Meaning.TheVariants.{Nothing, Does, Ends}
 
@@ -17,12 +20,16 @@ without_return text = if bytes_eq (drop (length text - 1) text) (13 ∷ []) then
 unfoldable pub behind_word : List ℕ → List ℕ → Option (List ℕ)
 behind_word word text = if bytes_eq (take (length word) text) word then Some (drop (length word) text) else None
 
--- an instance line, whose semicolon may be missing, with it
-unfoldable pub with_semicolon : List ℕ → List ℕ
-with_semicolon text = if ends_with nat_eq text (codes ";") then text else text ++ codes ";"
+-- the instance that the bytes spell (ISO 10303-21, simple entity instance), if they spell one
+abbrev pub spelled : List ℕ → Option Instance
+spelled bytes = result_ok (instance_reading bytes)
+
+-- an instance, whose semicolon may be missing
+unfoldable pub added : List ℕ → Option Instance
+added text = option_or (spelled text) (spelled (text ++ codes ";"))
 
 abbrev pub add_act : List ℕ → Option Act
-add_act text = option_map (λ x. Change (Add x)) (instance_of (with_semicolon text))
+add_act text = option_map (λ x. Change (Add x)) (added text)
 
 abbrev pub remove_act : List ℕ → Option Act
 remove_act text = option_map (λ id. Change (Remove id)) (number_of text)

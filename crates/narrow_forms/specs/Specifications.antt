@@ -3,6 +3,7 @@ use Rattle.std.specs.Prelude.{ℕ, true, List, [], ◌∷◌, Option, Some, None
 use Rattle.std.specs.Str.{chars, is_utf8}
 use Rattle.serde_json.specs.Data.{Data}
 use Rattle.serde_json.specs.Read.{read}
+use Rattle.restrictions.specs.declared.condition.Condition.TheVariants.{Simple}
 use Rattle.audit_model.specs.declared.facet.Facet.{Facet}
 use Rattle.audit_model.specs.declared.facet.Facet.TheVariants.{Entity}
 use Rattle.audit_model.specs.declared.specification.Cardinality.TheVariants as cardinality
@@ -15,7 +16,7 @@ use Rattle.narrow_forms.specs.SpecificationForm.{names_in, ReadsAs, IsOtherForm}
 
 -- The facet that asks for an entity of this name, of any predefined type (IDS 1.0, entity facet). The name is given in UTF-8.
 abbrev pub named_entity : List ℕ → Facet
-named_entity name = Entity (record { name = chars name; predefined = None })
+named_entity name = Entity (record { name = Simple (chars name); predefined = None })
 
 -- The specification that a document of the form says of these two entities, given in UTF-8: the first of its document, for the
 -- schema of the model, for elements that may be there, and with one required facet (IDS 1.0, specification).

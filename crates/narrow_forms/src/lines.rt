@@ -2,10 +2,8 @@
 
 ghost use Rattle.std.specs.Prelude.{◌≡◌, MatchOption, OnSome, length, position, ◌<◌, ◌==◌};
 ghost use Rattle.narrow_forms.specs.Lines.{Lines, cut, listed, line_at};
-ghost use Rattle.narrow_forms.specs.Model.{Gives, after};
 
 use crate::fault::LineFault;
-use ifc_base::Refusal;
 use std::marker::Model;
 
 /// Bytes that are still to be read. Contracts see them as a list.
@@ -57,25 +55,6 @@ fn first_feed(bytes: &[u8]) -> Option<usize>
     ensures { result ≡ position (λ byte. byte == 10) bytes.now }
 {
     bytes.iter().position(|byte| *byte == b'\n')
-}
-
-/// Passes the lines of `wanted`, in order. A refusal is what begins with the first line that is another one.
-#[tactic(auto, unfolding(crate::specs::Model::after, crate::specs::Lines::listed))]
-pub(crate) fn pass_lines<'a>(
-    wanted: &[u8],
-    lines: &mut LineReader<'a>,
-) -> Result<(), Refusal<&'a [u8]>>
-    ensures { Gives (λ _. cut lines.new) result (after (listed (cut wanted.now)) (cut lines.old)) }
-{
-    let mut wanted = LineReader::new(wanted);
-    while let Some(line) = wanted.next_line() {
-        let at = lines.rest();
-        match lines.next_line() {
-            Some(found) if found == line => {}
-            _ => return Err(Refusal::Fault(at)),
-        }
-    }
-    Ok(())
 }
 
 #[tactic(auto, using(crate::proofs::CutLemmas::line_total))]

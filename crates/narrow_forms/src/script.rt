@@ -3,14 +3,14 @@
 ghost use Rattle.std.specs.Prelude.{◌≡◌, IfOk};
 ghost use Rattle.audit_model.specs.ScriptOrder as order;
 ghost use Rattle.narrow_forms.specs.Answers.{Answers};
-ghost use Rattle.narrow_forms.specs.InstanceLine.{Reads};
+ghost use Rattle.narrow_forms.specs.Number.{Reads};
 ghost use Rattle.narrow_forms.specs.Lines.{cut};
-ghost use Rattle.narrow_forms.specs.Model.{Gives};
+ghost use Rattle.narrow_forms.specs.Reads.{Gives};
 ghost use Rattle.narrow_forms.specs.Script as spec;
 
 use crate::fault::LineFault;
-use crate::instance_line::OtherForm;
 use crate::lines::{LineReader, line_at};
+use crate::number::OtherForm;
 use crate::script_line::{Meaning, read_meaning, without_return};
 use audit_model::{Act, Phase, Phases, ScriptLine, ScriptLines};
 use ifc_base::Refusal;
@@ -207,7 +207,7 @@ fn read(alloc: Global, bytes: &[u8]) -> Result<Phases, Refusal<LineFault>>
 /// Reads a script of the narrow form: its phases, each with the lines up to a `sync`.
 ///
 /// A line feed ends each line, and a carriage return before it is dropped; behind the last line it may be missing. A line is
-/// empty, and says nothing, or is one of `open`, `add ` and an instance line of the model file, whose semicolon may be missing,
+/// empty, and says nothing, or is one of `open`, `add ` and an instance (ISO 10303-21), whose semicolon may be missing,
 /// `remove #n`, `commit`, `publish`, `take`, `give`, `work N` (N from 1 to 1,000,000, without a leading zero), and `sync`. All
 /// are of editor 1. A draft is opened where none is, edits (at most 10,000 of one draft) and `commit` want one, `take` and
 /// `work` want that nothing is held, and `give` wants a `take` that is held; at a `sync` no draft is open and nothing is held.

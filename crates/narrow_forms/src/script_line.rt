@@ -1,12 +1,13 @@
 //! One line of a script.
 
 ghost use Rattle.std.specs.Prelude.{◌≡◌, ◌++◌, codes, MatchOption, IfOk, None, Some};
-ghost use Rattle.narrow_forms.specs.InstanceLine.{Reads, instance_of};
+ghost use Rattle.narrow_forms.specs.Number.{Reads};
 ghost use Rattle.narrow_forms.specs.ScriptLine as spec;
 
-use crate::instance_line::{OtherForm, read_instance, read_number};
+use crate::number::{OtherForm, read_number};
 use audit_model::{Act, Edit};
 use ifc_base::{Instance, Memory, Refusal};
+use p21_read::read_instance;
 use std::alloc::Global;
 
 /// The most times that one line may work.
@@ -43,7 +44,7 @@ fn behind_word<'a>(word: &[u8], text: &'a [u8]) -> Option<&'a [u8]>
     text.strip_prefix(word)
 }
 
-/// The text with the semicolon that it is to end with.
+/// The text with a semicolon behind it.
 fn with_semicolon(alloc: Global, text: &[u8]) -> Result<Vec<u8>, Memory>
     ensures { IfOk result (λ bytes. bytes.items ≡ text.now ++ codes ";") }
 {
@@ -53,16 +54,30 @@ fn with_semicolon(alloc: Global, text: &[u8]) -> Result<Vec<u8>, Memory>
     Ok(bytes)
 }
 
-/// The instance of an instance line, whose semicolon may be missing.
-#[tactic(auto, unfolding(crate::specs::ScriptLine::with_semicolon))]
-fn read_added(alloc: Global, text: &[u8]) -> Result<Instance, Refusal<OtherForm>>
-    ensures { Reads (λ instance. instance) result (instance_of (spec.with_semicolon text.now)) }
+/// The instance that the bytes spell.
+fn read_spelled(alloc: Global, bytes: &[u8]) -> Result<Instance, Refusal<OtherForm>>
+    ensures { Reads (λ instance. instance) result (spec.spelled bytes.now) }
 {
-    if text.ends_with(b";") {
-        return read_instance(alloc, text);
+    match read_instance(alloc, bytes) {
+        Ok(instance) => Ok(instance),
+        Err(Refusal::Fault(_)) => Err(Refusal::Fault(OtherForm)),
+        Err(Refusal::Memory) => Err(Refusal::Memory),
     }
-    let bytes = with_semicolon(alloc, text)?;
-    read_instance(alloc, bytes.as_slice())
+}
+
+/// The instance that the text spells, whose semicolon may be missing.
+#[tactic(auto, unfolding(crate::specs::ScriptLine::added))]
+fn read_added(alloc: Global, text: &[u8]) -> Result<Instance, Refusal<OtherForm>>
+    ensures { Reads (λ instance. instance) result (spec.added text.now) }
+{
+    match read_spelled(alloc, text) {
+        Ok(instance) => Ok(instance),
+        Err(Refusal::Fault(_)) => {
+            let bytes = with_semicolon(alloc, text)?;
+            read_spelled(alloc, bytes.as_slice())
+        }
+        Err(Refusal::Memory) => Err(Refusal::Memory),
+    }
 }
 
 /// How many times a line is to work.

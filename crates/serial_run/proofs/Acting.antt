@@ -140,7 +140,7 @@ holds_nothing (held.Found f) e k = absurd (cc)
 
 pub give_stopped : {old new : CoreView} (who : ℕ) (f : FindingView) (why : Halt) (d : Done) → IsLater old.history d.history → HandsIn {A = Unit {0}} old new who f (Err why) → IsStopped why d old new
 give_stopped who f halt.Full d later k = absurd k
-give_stopped {old = old} who f halt.Memory d later k = stopped_before d later (record { history = refl; ground = refl; spare = omega arith; places = λ k h. h }) k
+give_stopped {old = old} who f halt.Memory d later k = stopped_before d later (record { history = refl; ground = refl; spare = omega arith }) k
 
 -- Work.
 

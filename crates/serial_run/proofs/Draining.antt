@@ -44,7 +44,7 @@ published {old = old} {mid = mid} k room =
     ∙ ap (λ (g : Ground). publish_done g mid.history) (sym k.ground)
     ∙ ap (λ (b : Bool). cond b (ended mid.history free) (done (entry 0 calls.Publish (publish_reply mid.ground mid.history) ∷ mid.history) free)) room
 
-pub drained : {old mid new : CoreView} (r : ℕ) (text : List ℕ) → AreRounds (all_rounds old) old mid → is_full mid.ground mid.history 1 ≡ false → Adds mid new (entry 0 calls.Publish (Report r)) → text ≡ audit_text mid.ground.specs (model_at mid.ground mid.history r) r →
+pub drained : {old mid new : CoreView} (r : ℕ) (text : List ℕ) → AreRounds (all_rounds old) old mid → is_full mid.ground mid.history 1 ≡ false → Adds mid new (entry 0 calls.Publish (Report r)) → text ≡ audit_text mid.ground.schema mid.ground.specs (model_at mid.ground mid.history r) r →
     Drains (drain_done old.ground old.history) old new (Ok text)
 drained {old = old} {mid = mid} {new = new} r text k room a audit =
     let e : StepRec = entry 0 calls.Publish (Report r) in
@@ -61,7 +61,7 @@ drained {old = old} {mid = mid} {new = new} r text k room a audit =
       record {
         model = model_at mid.ground mid.history r;
         revision = r;
-        report_is = audit ∙ ap (λ (g : Ground). audit_text g.specs (model_at mid.ground mid.history r) r) k.ground;
+        report_is = audit ∙ ap (λ (g : Ground). audit_text g.schema g.specs (model_at mid.ground mid.history r) r) k.ground;
         whole = ap (λ (t : Told). t.whole) here ∙ ap (λ (t : Told). t.whole ++ t.lines ++ text) quiet;
         lines = ap (λ (t : Told). t.lines) here;
         ended = ap (λ (h : List StepRec). ends_now h) a.history;

@@ -66,7 +66,7 @@ phase_done {old = old} {mid = mid} {new = new} first report text s lines r tells
       text_is = is;
       model = d.4.model;
       revision = d.4.revision;
-      report_is = d.4.report_is ∙ (λ i. Rattle.audit_model.specs.Report.audit_text (r.ground i).specs d.4.model d.4.revision);
+      report_is = d.4.report_is ∙ (λ i. Rattle.audit_model.specs.Report.audit_text (r.ground i).schema (r.ground i).specs d.4.model d.4.revision);
       whole = λ none.
           d.4.whole
           ∙ (λ i. tells.whole i ++ sym (tells.lines (sym none)) i ++ report)

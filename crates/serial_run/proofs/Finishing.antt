@@ -7,6 +7,7 @@ use Rattle.std.proofs.lemmas.Bool.{true≢false}
 use Rattle.std.proofs.lemmas.List.{append-nil, append_assoc, reverse-append, reverse-reverse}
 use Rattle.ifc_base.specs.declared.value.Instance.{Instance}
 use Rattle.shelf_io.specs.Pieces.{Appended}
+use Rattle.schema_table.specs.Schema.{Schema}
 use Rattle.audit_model.specs.declared.specification.Specification.{Specification}
 use Rattle.audit_model.specs.declared.step.StepRec.{StepRec}
 use Rattle.audit_model.specs.declared.script.Phase.{Phase}
@@ -55,19 +56,19 @@ unfolding ends_pass
 ends_as front true = rw (last_nine front (line (codes "end pass")) refl) refl
 ends_as front false = rw (last_nine front (line (codes "end fail")) refl) refl
 
-audit_ends : (front : List ℕ) (specs : List Specification) (m : List Instance) (r : ℕ) → ends_pass (front ++ audit_text specs m r) ≡ all_pass (scratch specs m)
+audit_ends : (front : List ℕ) (s : Schema) (specs : List Specification) (m : List Instance) (r : ℕ) → ends_pass (front ++ audit_text s specs m r) ≡ all_pass (scratch s specs m)
 unfolding report_text
-audit_ends front specs m r =
-    ap (λ (xs : List ℕ). ends_pass xs) (sym (append_assoc front (line (codes "report " ++ decimal r) ++ tallies_lines 1 (scratch specs m)) (line (codes "end " ++ pass_word (all_pass (scratch specs m))))))
-    ∙ ends_as (front ++ (line (codes "report " ++ decimal r) ++ tallies_lines 1 (scratch specs m))) (all_pass (scratch specs m))
+audit_ends front s specs m r =
+    ap (λ (xs : List ℕ). ends_pass xs) (sym (append_assoc front (line (codes "report " ++ decimal r) ++ tallies_lines 1 (scratch s specs m)) (line (codes "end " ++ pass_word (all_pass (scratch s specs m))))))
+    ∙ ends_as (front ++ (line (codes "report " ++ decimal r) ++ tallies_lines 1 (scratch s specs m))) (all_pass (scratch s specs m))
 
 -- whether the text of all phases passes is said by that of the last
 pub passes_as : {s : Run} {old new : CoreView} {text : List ℕ} (before : List ℕ) → IsPhase s old new text → ends_pass text ≡ ends_pass (before ++ text)
 passes_as {old = old} {text = text} before k =
-    let report : List ℕ = audit_text old.ground.specs k.model k.revision in
+    let report : List ℕ = audit_text old.ground.schema old.ground.specs k.model k.revision in
     let is : text ≡ k.lines ++ report = k.text_is ∙ ap (λ (xs : List ℕ). k.lines ++ xs) k.report_is in
-    ap (λ (xs : List ℕ). ends_pass xs) is ∙ audit_ends k.lines old.ground.specs k.model k.revision
-    ∙ sym (ap (λ (xs : List ℕ). ends_pass (before ++ xs)) is ∙ ap (λ (xs : List ℕ). ends_pass xs) (sym (append_assoc before k.lines report)) ∙ audit_ends (before ++ k.lines) old.ground.specs k.model k.revision)
+    ap (λ (xs : List ℕ). ends_pass xs) is ∙ audit_ends k.lines old.ground.schema old.ground.specs k.model k.revision
+    ∙ sym (ap (λ (xs : List ℕ). ends_pass (before ++ xs)) is ∙ ap (λ (xs : List ℕ). ends_pass xs) (sym (append_assoc before k.lines report)) ∙ audit_ends (before ++ k.lines) old.ground.schema old.ground.specs k.model k.revision)
 
 -- Phases so far.
 

@@ -1,6 +1,7 @@
 -- Claims, deliveries and rounds.
 use Rattle.std.proofs.Common.{◌≡◌, ℕ, suc, ◌+◌, ◌-◌, ◌<◌, arith, Ok, Bool, true, false, not, cond, List, [], ◌∷◌, ◌++◌, Option, Some, None, ◌⊎◌, inl, inr, refl, ap, sym, subst, ◌∙◌}
 use Rattle.std.proofs.lemmas.Bool.{eq-eqb}
+use Rattle.schema_table.specs.Schema.{Schema}
 use Rattle.audit_model.specs.declared.step.StepRec.{StepRec}
 use Rattle.audit_model.specs.declared.step.Given.{Given}
 use Rattle.audit_model.specs.declared.step.Call.TheVariants as call
@@ -53,14 +54,14 @@ pub record IsTakenAlone (core : CoreView) (who : ℕ) (c : ClaimView) : Type 0 w
 
 pub took : {old new : CoreView} {who : ℕ} (c : ClaimView) → IsFree old → Adds old new (claimed_entry who c) → IsGiven old new who c → IsTakenAlone new who c
 took {old = old} {who = who} c f a given = record {
-  taken = record { is_out = given.is_out; snapshot_is = rw (a.ground, a.history, given.snapshot) (sym (model_of-last old.ground (commits old.history))) };
+  taken = record { is_out = given.is_out; snapshot_is = rw (a.ground, a.history, given.snapshot.model, given.snapshot.revision) (sym (model_of-last old.ground (commits old.history))) };
   alone = rw a.history (ap (λ (cs : List Given). cs ++ given_of who c ∷ []) f.none_out);
 }
 
-pub found : {old new : CoreView} {who : ℕ} {c : ClaimView} {f : FindingView} (specs : List Specification) → specs ≡ old.ground.specs → IsFree old → Adds old new (claimed_entry who c) → IsGiven old new who c → IsFindingOf specs c f → HoldsIn new who (held.Found f)
-found {old = old} {new = new} {who = who} {c = c} {f = f} specs same free a given k =
+pub found : {old new : CoreView} {who : ℕ} {c : ClaimView} {f : FindingView} (s : Schema) (specs : List Specification) → s ≡ old.ground.schema → specs ≡ old.ground.specs → IsFree old → Adds old new (claimed_entry who c) → IsGiven old new who c → IsFindingOf s specs c f → HoldsIn new who (held.Found f)
+found {old = old} {new = new} {who = who} {c = c} {f = f} s specs kept same free a given k =
     let t : IsTakenAlone new who c = took c free a given in
-    let of : IsFindingOf new.ground.specs c f = rw (a.ground, ← same) k in
+    let of : IsFindingOf new.ground.schema new.ground.specs c f = rw (a.ground, ← kept, ← same) k in
     record {
       legal = legal_next a free.legal;
       ready = (rw k.claim_is t.taken, record { claim_is = refl; verdict_is = rw k.claim_is of.verdict_is; needs_are = rw k.claim_is of.needs_are });

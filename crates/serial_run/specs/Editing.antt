@@ -48,7 +48,7 @@ out_of who (held.Found f) = given_of who f.claim ∷ []
 
 -- the finding is of a claim that is out, at the model of its revision, and true there
 abbrev pub IsReady : Ground → List StepRec → ℕ → FindingView → Type 0
-IsReady g h who f = IsTaken g h (record { actor = who; claim = f.claim }) × IsFindingOf g.specs f.claim f
+IsReady g h who f = IsTaken g h (record { actor = who; claim = f.claim }) × IsFindingOf g.schema g.specs f.claim f
 
 abbrev pub HoldsReady : Ground → List StepRec → ℕ → Held → Type 0
 HoldsReady g h who held.Nothing = Unit {0}

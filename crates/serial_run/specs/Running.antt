@@ -62,7 +62,7 @@ ends_now (e ∷ h) = ends_phase e
 pub record IsReported (old new : CoreView) (report : List ℕ) : Type 0 where
   pub model : List Instance
   pub revision : ℕ
-  pub report_is : report ≡ audit_text old.ground.specs model revision
+  pub report_is : report ≡ audit_text old.ground.schema old.ground.specs model revision
   pub whole : (told new.ground new.history).whole ≡ (told old.ground old.history).whole ++ (told old.ground old.history).lines ++ report
   pub lines : (told new.ground new.history).lines ≡ []
   pub alone : is_of_one_editor old.history ≡ true → is_of_one_editor new.history ≡ true
@@ -81,7 +81,7 @@ pub record IsPhase (s : Run) (old new : CoreView) (text : List ℕ) : Type 0 whe
   pub text_is : text ≡ lines ++ report
   pub model : List Instance
   pub revision : ℕ
-  pub report_is : report ≡ audit_text old.ground.specs model revision
+  pub report_is : report ≡ audit_text old.ground.schema old.ground.specs model revision
   pub whole : (told old.ground old.history).lines ≡ [] → (told new.ground new.history).whole ≡ (told old.ground old.history).whole ++ text
   pub none : (told new.ground new.history).lines ≡ []
   pub ended : ends_now new.history ≡ true

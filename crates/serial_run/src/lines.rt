@@ -116,6 +116,7 @@ pub fn take<E: Evaluate>(
 ) -> Result<Editor, Halt>
     requires works { WorksIn core.old who editor }
     requires free { is_holding editor.held ≡ false }
+    requires schema { E.schema evaluator.now ≡ core.old.ground.schema }
     requires specs { E.specs evaluator.now ≡ core.old.ground.specs }
     ensures { LeavesEditor (act_done core.old.ground who Act.Take (place_of editor) core.old.history)
         core.old core.new who result }
@@ -163,6 +164,7 @@ pub fn work<E: Evaluate>(
 ) -> Result<Editor, Halt>
     requires works { WorksIn core.old who editor }
     requires free { is_holding editor.held ≡ false }
+    requires schema { E.schema evaluator.now ≡ core.old.ground.schema }
     requires specs { E.specs evaluator.now ≡ core.old.ground.specs }
     ensures { LeavesEditor (act_done core.old.ground who (Act.Work most) (place_of editor) core.old.history)
         core.old core.new who result }

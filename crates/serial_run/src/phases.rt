@@ -28,6 +28,7 @@ fn lines<E: Evaluate>(
 ) -> Result<(), Halt>
     requires free { IsFree core.old }
     requires order { IsOrderly 1 false false lines }
+    requires schema { E.schema evaluator.now ≡ core.old.ground.schema }
     requires specs { E.specs evaluator.now ≡ core.old.ground.specs }
     requires limits { limits.now ≡ core.old.ground.limits }
     ensures { (s : Run) → AtRun s core.old free →
@@ -55,6 +56,7 @@ fn lines<E: Evaluate>(
 fn drain<E: Evaluate>(alloc: Global, core: &mut Core, evaluator: &E) -> Result<ReportText, Halt>
     requires free { IsFree core.old }
     requires sound { IsSound core.old.ground }
+    requires schema { E.schema evaluator.now ≡ core.old.ground.schema }
     requires specs { E.specs evaluator.now ≡ core.old.ground.specs }
     ensures { Drains (drain_done core.old.ground core.old.history) core.old core.new result }
 {
@@ -79,6 +81,7 @@ pub fn phase<E: Evaluate>(
     requires free { IsFree core.old }
     requires sound { IsSound core.old.ground }
     requires order { IsOrderly 1 false false phase.lines }
+    requires schema { E.schema evaluator.now ≡ core.old.ground.schema }
     requires specs { E.specs evaluator.now ≡ core.old.ground.specs }
     requires limits { limits.now ≡ core.old.ground.limits }
     ensures { (s : Run) → AtRun s core.old free →

@@ -56,6 +56,7 @@ pub fn run_script<E: Evaluate, K: Sink>(
     requires fresh { core.history ≡ [] }
     requires sound { IsSound core.ground }
     requires order { AreOrderly 1 phases }
+    requires schema { E.schema evaluator.now ≡ core.ground.schema }
     requires specs { E.specs evaluator.now ≡ core.ground.specs }
     requires limits { limits.now ≡ core.ground.limits }
     ensures ran { IsRan core.entry.ground phases (K.written out.old) (K.written out.new) result }

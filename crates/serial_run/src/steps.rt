@@ -33,6 +33,7 @@ pub fn step<E: Evaluate>(
 ) -> Result<Editor, Halt>
     requires works { WorksIn core.old 1 editor }
     requires order { may_come (is_drafting editor.draft) (is_holding editor.held) line ≡ true }
+    requires schema { E.schema evaluator.now ≡ core.old.ground.schema }
     requires specs { E.specs evaluator.now ≡ core.old.ground.specs }
     requires limits { limits.now ≡ core.old.ground.limits }
     ensures { Steps (act_done core.old.ground 1 line (place_of editor) core.old.history)
@@ -83,6 +84,7 @@ pub fn act<E: Evaluate>(
 ) -> Result<(Editor, Option<ReportText>), Halt>
     requires works { WorksIn core.old who editor }
     requires order { may_come (is_drafting editor.draft) (is_holding editor.held) line ≡ true }
+    requires schema { E.schema evaluator.now ≡ core.old.ground.schema }
     requires specs { E.specs evaluator.now ≡ core.old.ground.specs }
     ensures { Acts (act_done core.old.ground who line (place_of editor) core.old.history) line core.old core.new who result }
 {

@@ -5,9 +5,10 @@ ghost use Rattle.audit_model.specs.Output.{a_number, an_id, key_text, reply_text
 ghost use Rattle.audit_model.specs.Output.{edit_fault_text, instance_fault_text, refusal_text};
 ghost use Rattle.serial_run.specs.Lines.{entry_line, entry_lines};
 
-use audit_model::{CommitRefusal, EditFault, InstanceFault, Limits, Pair, Reply, StepRec};
+use audit_model::{CommitRefusal, EditFault, Limits, Pair, Reply, StepRec};
 use ifc_base::{InstId, Key, Memory, Role};
 use report_text::{push_decimal, push_text};
+use schema_table::InstanceFault;
 
 /// Appends the lines of the entries, in their order.
 pub fn push_entries(out: &mut Vec<u8>, limits: &Limits, entries: &[StepRec]) -> Result<(), Memory>

@@ -23,6 +23,7 @@ pub fn take_up<E: Evaluate>(
     who: u32,
 ) -> Result<Option<Finding>, Halt>
     requires free { IsFree core.old }
+    requires schema { E.schema evaluator.now ≡ core.old.ground.schema }
     requires specs { E.specs evaluator.now ≡ core.old.ground.specs }
     ensures { Takes core.old core.new who result }
 {
@@ -55,6 +56,7 @@ pub fn hand_in(core: &mut Core, who: u32, finding: Finding) -> Result<(), Halt>
 /// One round: claims a pair, evaluates and delivers it. It answers whether there was a pair.
 fn round<E: Evaluate>(alloc: Global, core: &mut Core, evaluator: &E, who: u32) -> Result<bool, Halt>
     requires free { IsFree core.old }
+    requires schema { E.schema evaluator.now ≡ core.old.ground.schema }
     requires specs { E.specs evaluator.now ≡ core.old.ground.specs }
     ensures { LeavesRound core.old core.new who result }
 {
@@ -74,6 +76,7 @@ pub fn rounds<E: Evaluate>(
     most: u64,
 ) -> Result<(), Halt>
     requires free { IsFree core.old }
+    requires schema { E.schema evaluator.now ≡ core.old.ground.schema }
     requires specs { E.specs evaluator.now ≡ core.old.ground.specs }
     ensures { (p : Place) → Works (rounds core.old.ground who most p core.old.history) core.old core.new result }
 {

@@ -1,10 +1,7 @@
 ghost use Rattle.std.specs.Prelude.{◌≡◌, ◌≤◌, true, false, Some, IfOk, IfErr, OnOk};
-ghost use Rattle.std.specs.List.{list_all};
 ghost use Rattle.audit_model.specs.Judging.{judge};
 ghost use Rattle.audit_model.specs.History.{current, last_change, revision};
 ghost use Rattle.audit_model.specs.Machine.{is_full};
-ghost use Rattle.audit_core.specs.Changes.{has_place};
-ghost use Rattle.audit_core.specs.Cores.{now_of};
 ghost use Rattle.audit_core.specs.Commits.{gives_full, IsNotPrepared, IsPlan, IsPlanned, IsPreparedFor};
 ghost use Rattle.audit_core.specs.Steps.{Adds, Unchanged};
 
@@ -21,11 +18,12 @@ use std::alloc::Global;
 impl<'a> Core<'a> {
     /// What a commit of these edits, drafted on this revision, would make.
     fn plan(&self, alloc: Global, base: u32, edits: &Edits) -> Result<Planned, Memory>
-        ensures { IfOk result (λ plan. IsPlanned self.now.ground.specs self.now.ground.limits
-            (last_change self.now.ground self.now.history) base (now_of self.now) edits.now plan) }
+        ensures { IfOk result (λ plan. IsPlanned self.now.ground.schema self.now.ground.specs self.now.ground.limits
+            (last_change self.now.ground self.now.history) base (revision self.now.history) (current self.now.ground self.now.history) edits.now plan) }
     {
         plan_commit(
             alloc,
+            self.schema,
             self.specs,
             self.limits,
             &self.log,
@@ -35,20 +33,12 @@ impl<'a> Core<'a> {
         )
     }
 
-    /// Makes places for these keys in the log of changes.
-    fn make_places(&mut self, keys: &Keys) -> Result<(), Memory>
-        ensures same { Unchanged self.old self.new }
-        ensures placed { OnOk result (list_all (has_place self.new.places) keys.now ≡ true) }
-    {
-        self.log.make_places(keys.as_slice())
-    }
-
     /// Adds the entry of a refused commit.
     fn refuse(&mut self, alloc: Global, actor: u32, draft: Draft, why: CommitRefusal) -> NotPrepared
         requires room { 1 ≤ self.old.spare }
         requires not_full { is_full self.old.ground self.old.history 1 ≡ false }
         requires base { draft.base.revision ≤ revision self.old.history }
-        requires refused { judge self.old.ground.limits (revision self.old.history)
+        requires refused { judge self.old.ground.schema self.old.ground.limits (revision self.old.history)
             (last_change self.old.ground self.old.history) draft.base.revision
             (current self.old.ground self.old.history) draft.edits ≡ Some why }
         ensures not_prepared { IsNotPrepared self.old self.new actor draft result }
@@ -72,8 +62,8 @@ impl<'a> Core<'a> {
     /// Judges a draft, and makes all that its commit needs. The draft's base has to be at most the
     /// current revision. Where it is accepted the core is as before, and `finish` makes the commit. A
     /// refused draft adds its entry and comes back; where the journal is full, or memory is wanting, the
-    /// draft comes back too and the core is as before. `O(s * n + r log n)` for `s` specifications, `n`
-    /// instances and their `r` references.
+    /// draft comes back too and the core is as before. It costs what the edits
+    /// touch, and `O(s * n)` for `s` specifications and `n` instances.
     pub fn prepare(
         &mut self,
         alloc: Global,
@@ -97,13 +87,14 @@ impl<'a> Core<'a> {
         match self.plan(alloc, draft.base().revision(), draft.edits()) {
             Err(_) => Err(NotPrepared::Memory(draft)),
             Ok(Planned::Refused(why)) => Err(self.refuse(alloc, actor, draft, why)),
-            Ok(Planned::Next(next, keys, rows)) => self.reserve(actor, draft, next, keys, rows),
+            Ok(Planned::Next(next, keys, rows)) => self.note(alloc, actor, draft, next, keys, rows),
         }
     }
 
-    /// Makes places for the changes of a planned commit.
-    fn reserve(
+    /// Notes the changes of a planned commit in a log of their own.
+    fn note(
         &mut self,
+        alloc: Global,
         actor: u32,
         draft: Draft,
         next: Snapshot,
@@ -113,9 +104,9 @@ impl<'a> Core<'a> {
         requires room { 1 ≤ self.old.spare }
         requires not_full { is_full self.old.ground self.old.history 1 ≡ false }
         requires base { draft.base.revision ≤ revision self.old.history }
-        requires plan { IsPlan self.old.ground.specs self.old.ground.limits
+        requires plan { IsPlan self.old.ground.schema self.old.ground.specs self.old.ground.limits
             (last_change self.old.ground self.old.history) draft.base.revision
-            (now_of self.old) draft.edits next keys rows.items }
+            (revision self.old.history) (current self.old.ground self.old.history) draft.edits next keys rows.items }
         ensures ok { IfOk result (λ prepared. IsPreparedFor self.new prepared) }
         ensures actor { IfOk result (λ prepared. prepared.actor ≡ actor) }
         ensures base { IfOk result (λ prepared. prepared.base ≡ draft.base.revision) }
@@ -124,9 +115,9 @@ impl<'a> Core<'a> {
         ensures not_prepared { IfErr result (λ why. IsNotPrepared self.old self.new actor draft why) }
         ensures not_full { IfErr result (λ why. gives_full why ≡ false) }
     {
-        if self.make_places(&keys).is_err() {
+        let Ok(log) = self.log.with_note(alloc, &keys, next.revision()) else {
             return Err(NotPrepared::Memory(draft));
-        }
+        };
         let (base, edits) = draft.into_parts();
         Ok(Prepared {
             actor,
@@ -134,6 +125,7 @@ impl<'a> Core<'a> {
             edits,
             next,
             keys,
+            log,
             rows,
         })
     }
@@ -152,12 +144,13 @@ impl<'a> Core<'a> {
             base,
             edits,
             next,
-            keys,
+            keys: _keys,
+            log,
             rows,
         } = prepared;
         let since = self.current.revision();
         let revision = next.revision();
-        self.log.note(keys.as_slice(), revision);
+        self.log = log;
         let olds = std::mem::replace(&mut self.board, rows);
         carry(&mut self.board, &self.log, since, olds);
         self.passed = 0;

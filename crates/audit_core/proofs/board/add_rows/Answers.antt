@@ -1,14 +1,14 @@
-use Rattle.std.proofs.Common.{◌∙◌, ◌++◌, ap}
+use Rattle.std.proofs.Common.{◌∙◌, ◌++◌, ap, map}
 use Rattle.std.proofs.lemmas.List.{append_assoc, take_all}
-use Rattle.audit_core.proofs.First.{rows_more, rows_of}
+use Rattle.audit_core.proofs.First.{rows_next, rows_of}
 use Rattle.audit_core.proofs.board.add_rows.Goals as goal
 
 pub loop-instance-preserved : goal.loop-instance-preserved
 loop-instance-preserved c =
-    rw (c.in_ok-add_row.ensures, c.loop-instance.invariant, c.may_apply-wanted.ensures, c.get.ensures, c.id.ensures, rows_more c.args.spec.now c.args.instances.now c.loop-instance.instance-index c.instance-item.result c.loop-instance-test.true c.instance-item.is)
+    rw (c.in_ok-add_row.ensures, c.loop-instance.invariant, c.in_ok-wanted.ensures, rows_next (λ x. x.now) c.args.spec.now c.args.instances.now c.loop-instance.instance-index c.instance-item.result c.loop-instance-test.true c.instance-item.is)
     (simp append_assoc)
 
 pub returns : goal.returns
 returns c =
     c.loop-instance.invariant
-    ∙ rw (take_all c.loop-instance.instance-index c.args.instances.now c.loop-instance-test.false) (ap (λ rs. c.args.rows.now.items ++ rs) (rows_of c.args.spec.now c.args.instances.now c.if-not-spec.false))
+    ∙ rw (take_all c.loop-instance.instance-index c.args.instances.now c.loop-instance-test.false) (ap (λ rs. c.args.rows.now.items ++ rs) (rows_of c.args.spec.now (map (λ x. x.now) c.args.instances.now) c.if-not-spec.false))

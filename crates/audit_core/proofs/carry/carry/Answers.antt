@@ -1,5 +1,5 @@
 use Rattle.std.proofs.lemmas.List.Sums.{fold-append}
-use Rattle.audit_core.specs.Changes.{last_in}
+use Rattle.inverse_index.specs.Log.{last_in}
 use Rattle.audit_core.specs.Rows.{carried_row}
 use Rattle.audit_core.proofs.PairOrder.{carried_ascends}
 use Rattle.audit_core.proofs.carry.carry.Goals as goal

@@ -1,5 +1,5 @@
 use Rattle.std.proofs.Common.{◌≡◌}
-use Rattle.audit_core.specs.Changes.{last_in}
+use Rattle.inverse_index.specs.Log.{last_in}
 use Rattle.audit_core.specs.Rows.{carried, AreAscending}
 use Rattle.audit_core.proofs.carry.carry.Given as goal
 

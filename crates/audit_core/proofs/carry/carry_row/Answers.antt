@@ -1,6 +1,6 @@
 use Rattle.std.proofs.Common.{◌≡◌, ◌∙◌, true, false, sym, ap, List, Option, Some, None, find, is_none, nat_lt, refl}
 use Rattle.ifc_base.specs.declared.key.Key.{Key}
-use Rattle.audit_core.specs.Changes.{last_in}
+use Rattle.inverse_index.specs.Log.{last_in}
 use Rattle.audit_core.specs.Rows.{stays_kept}
 use Rattle.audit_core.proofs.carry.carry_row.Goals as goal
 

@@ -1,5 +1,5 @@
 use Rattle.audit_model.proofs.laws.needs_cover_verdict.Goals as goal
-use Rattle.audit_model.proofs.HistoryLaws as laws
+use Rattle.audit_model.proofs.Frame as laws
 
 pub returns : goal.returns
-returns c = laws.needs_cover_verdict
+returns c = laws.stays

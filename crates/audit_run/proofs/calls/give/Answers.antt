@@ -13,7 +13,7 @@ pub deliver-requires : goal.deliver-requires
 deliver-requires g c =
     let k = rw (← c.hands.view_is) at c.requires.holding in
     let p = out_of k c.in-Some.ensures.first c.take_claim.ensures.others in
-    let f = rw c.requires.specs at c.in-Ok.ensures.ok in
+    let f = rw (c.requires.schema, c.requires.specs) at c.in-Ok.ensures.ok in
     true_finding p.own f
 
 pub give_back-requires : goal.give_back-requires

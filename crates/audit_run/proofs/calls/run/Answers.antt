@@ -9,6 +9,9 @@ loop-asked-init g c = record { play = rw c.new-texts.ensures.items (play_none c.
 pub step-requires-clause-holding : goal.step-requires-clause-holding
 step-requires-clause-holding g c = c.loop-asked.invariant.play.holding
 
+pub step-requires-clause-schema : goal.step-requires-clause-schema
+step-requires-clause-schema g c = rw c.loop-asked.invariant.play.ground c.requires.schema
+
 pub step-requires-clause-specs : goal.step-requires-clause-specs
 step-requires-clause-specs g c = rw c.loop-asked.invariant.play.ground c.requires.specs
 

@@ -1,28 +1,29 @@
-use Rattle.std.proofs.Common.{refl, Ok, Err}
+use Rattle.std.proofs.Common.{refl, ap, Err}
 use Rattle.ids_live.specs.Words.{command_shown}
-use Rattle.ids_live.proofs.Ends.{of_command, early_run, shelf_run, read_run, among_played, among_refused, no_fault_of_sink}
+use Rattle.ids_live.proofs.Ends.{of_command, early_run, shelf_run, read_run, past_run, written_before, among_played, among_refused, no_fault_of_sink}
 use Rattle.ids_live.proofs.top.run.Goals as goal
 
 pub returns-in-Err-Shelf-clause-run : goal.returns-in-Err-Shelf-clause-run
 returns-in-Err-Shelf-clause-run g c = of_command (command_shown c.in-Some.names) _ c.in-Some.ensures
-    (shelf_run (command_shown c.in-Some.names) _ (g.H.Shelf.reads c.args.shelf.now) (g.H.Shelf.reads c.load.new.shelf) _ c.ended-in-Err-Shelf.result c.ended-in-Err-Shelf.ensures.status
-    (rw c.in-Err-Shelf.field-0-is at c.in-Err-Shelf.ensures.stopped))
+    (shelf_run (command_shown c.in-Some.names) _ (g.H.Shelf.reads c.args.shelf.now) (g.H.Shelf.reads c.replay.new.shelf) (g.O.Sink.written c.args.out.now) (g.O.Sink.written c.replay.new.out) c.ended-in-Err-Shelf.result c.ended-in-Err-Shelf.ensures.status
+    (rw c.in-Err-Shelf.field-0-is at c.in-Err-Shelf.ensures.replays))
 
 pub returns-in-Err-Memory-clause-run : goal.returns-in-Err-Memory-clause-run
 returns-in-Err-Memory-clause-run g c = of_command (command_shown c.in-Some.names) _ c.in-Some.ensures
-    (early_run (command_shown c.in-Some.names) _ (g.H.Shelf.reads c.args.shelf.now) (g.H.Shelf.reads c.load.new.shelf) _ c.ended-in-Err-Memory.result c.ended-in-Err-Memory.ensures.journal c.ended-in-Err-Memory.ensures.status
-    (rw c.in-Err-Memory.field-0-is at c.in-Err-Memory.ensures.stopped))
+    (early_run (command_shown c.in-Some.names) _ (g.H.Shelf.reads c.args.shelf.now) (g.H.Shelf.reads c.replay.new.shelf) (g.O.Sink.written c.args.out.now) (g.O.Sink.written c.replay.new.out) c.ended-in-Err-Memory.result c.ended-in-Err-Memory.ensures.journal c.ended-in-Err-Memory.ensures.status
+    (ap g.O.Sink.written c.in-Err-Memory.ensures.silent) (rw c.in-Err-Memory.field-0-is at c.in-Err-Memory.ensures.replays))
 
 pub returns-in-Ok-clause-run : goal.returns-in-Ok-clause-run
 returns-in-Ok-clause-run g c = of_command (command_shown c.in-Some.names) _ c.in-Some.ensures
-    (read_run (command_shown c.in-Some.names) (g.H.Shelf.held c.args.shelf.now) (g.H.Shelf.reads c.args.shelf.now) (g.H.Shelf.reads c.load.new.shelf) _ _ c.play.result (Ok c.in-Ok.loaded) c.in-Ok.ensures.reads
-    (among_played c.play.result.status c.play.ensures.status) c.play.ensures.ends)
+    (past_run (command_shown c.in-Some.names) (g.H.Shelf.held c.args.shelf.now) (g.H.Shelf.reads c.args.shelf.now) (g.H.Shelf.reads c.replay.new.shelf) (g.O.Sink.written c.args.out.now) (g.O.Sink.written c.replay.new.out) (g.O.Sink.sure c.args.out.now) c.in-Ok.ended
+    c.in-Ok.ensures.replays (among_played c.in-Ok.ended.status c.in-Ok.ensures.status))
 
 pub returns-in-Err-Refused-clause-run : goal.returns-in-Err-Refused-clause-run
 returns-in-Err-Refused-clause-run g c = of_command (command_shown c.in-Some.names) _ c.in-Some.ensures
-    (read_run (command_shown c.in-Some.names) (g.H.Shelf.held c.args.shelf.now) (g.H.Shelf.reads c.args.shelf.now) (g.H.Shelf.reads c.load.new.shelf) _ _ c.refuse.result (Err c.in-Err-Refused.refused)
-    (rw c.in-Err-Refused.field-0-is at c.in-Err-Refused.ensures.reads)
-    (among_refused c.refuse.result.status c.refuse.ensures.status) c.refuse.ensures.ends)
+    (read_run (command_shown c.in-Some.names) (g.H.Shelf.held c.args.shelf.now) (g.H.Shelf.reads c.args.shelf.now) (g.H.Shelf.reads c.replay.new.shelf) (g.O.Sink.written c.args.out.now) (g.O.Sink.written c.refuse.new.out) c.refuse.result (Err c.in-Err-Refused.refused)
+    (rw c.in-Err-Refused.field-0-is at c.in-Err-Refused.ensures.replays)
+    (among_refused c.refuse.result.status c.refuse.ensures.status)
+    (written_before (Err c.in-Err-Refused.refused) (g.O.Sink.written c.args.out.now) (g.O.Sink.written c.replay.new.out) (g.O.Sink.written c.refuse.new.out) c.refuse.result (ap g.O.Sink.written c.in-Err-Refused.ensures.silent) c.refuse.ensures.ends))
 
 pub returns-in-Err-Shelf-clause-sure : goal.returns-in-Err-Shelf-clause-sure
 returns-in-Err-Shelf-clause-sure g c = no_fault_of_sink _ _ c.ended-in-Err-Shelf.result.status (rw c.ended-in-Err-Shelf.ensures.status refl)

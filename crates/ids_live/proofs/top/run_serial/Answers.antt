@@ -7,4 +7,4 @@ returns-clause-complete g c =
 
 pub returns-clause-sure : goal.returns-clause-sure
 returns-clause-sure g c =
-    all_sure _ _ _ _ _ _ (g.O.Sink.sure c.args.out.now) _ _ _ _ c.run.result c.run.ensures.status c.run.ensures.shelf c.run.ensures.sink c.run.ensures.steady c.run.ensures.sure
+    all_sure _ _ _ _ _ (g.H.Shelf.steady c.args.shelf.now) (g.O.Sink.sure c.args.out.now) _ _ _ _ c.run.result c.run.ensures.status c.run.ensures.shelf c.run.ensures.sink c.run.ensures.steady c.run.ensures.sure

@@ -19,6 +19,11 @@ drain-requires-clause-sound g c =
     let r = (c.in_ok-lines.ensures (any_run c.args.core.now) (at_any c.args.core.now)).0 in
     rw r.ground c.requires.sound
 
+pub drain-requires-clause-schema : goal.drain-requires-clause-schema
+drain-requires-clause-schema g c =
+    let r = (c.in_ok-lines.ensures (any_run c.args.core.now) (at_any c.args.core.now)).0 in
+    rw r.ground c.requires.schema
+
 pub drain-requires-clause-specs : goal.drain-requires-clause-specs
 drain-requires-clause-specs g c =
     let r = (c.in_ok-lines.ensures (any_run c.args.core.now) (at_any c.args.core.now)).0 in

@@ -13,7 +13,7 @@ returns-in-Ok g c =
     let adds = rw c.in-Pair.is at c.in_ok-claim.ensures.ok in
     let given = rw c.in-Pair.is at c.in_ok-claim.ensures.given in
     let k = c.in-Ok.ensures.ok in
-    (c.in_ok-claim.ensures.not_full, rw k.claim_is adds, found (g.E.Evaluate.specs c.args.evaluator.now) c.requires.specs c.requires.free adds given k)
+    (c.in_ok-claim.ensures.not_full, rw k.claim_is adds, found (g.E.Evaluate.schema c.args.evaluator.now) (g.E.Evaluate.specs c.args.evaluator.now) c.requires.schema c.requires.specs c.requires.free adds given k)
 
 pub returns-in-Err : goal.returns-in-Err
 returns-in-Err g c =

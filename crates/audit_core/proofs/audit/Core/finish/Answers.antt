@@ -1,9 +1,5 @@
-use Rattle.std.proofs.Common.{◌≡◌, arith, if◌then◌else◌}
-use Rattle.std.specs.List.{list_any}
+use Rattle.std.proofs.Common.{arith}
 use Rattle.std.proofs.lemmas.List.{reverse-append}
-use Rattle.ifc_base.specs.declared.key.Key.{Key}
-use Rattle.ifc_base.specs.KeyOrder.{key_eq}
-use Rattle.audit_core.specs.Changes.{last_in}
 use Rattle.audit_core.proofs.CommitLaws.{kept_commit, plan_ascends}
 use Rattle.audit_core.proofs.Entries.{room_left, few_left}
 use Rattle.audit_core.proofs.audit.Core.finish.Goals as goal
@@ -16,6 +12,5 @@ carry-requires c =
 pub invariant_of-self : goal.invariant_of-self
 invariant_of-self c =
     let r = rw (← c.self.view_is, ← c.prepared.view_is) at c.requires in
-    let noted : (k : Key) → last_in c.note.new.self k ≡ (if list_any (λ j. key_eq j k) c.prepared.inside.keys then c.prepared.inside.next.revision else last_in c.self.inside.log k) = λ k. rw (← c.as_slice.ensures, ← c.revision-revision.ensures) (c.note.ensures k) in
     rw (c.push_reserved.ensures.items, reverse-append, c.push_reserved.ensures.capacity, c.carry.ensures, c.replace-olds.ensures.value, c.replace-olds.ensures.after, c.revision-since.ensures, c.revision-revision.ensures)
-    (kept_commit c.prepared.inside.actor c.prepared.inside.base c.prepared.inside.edits c.prepared.inside.next c.prepared.inside.keys c.prepared.inside.rows.items c.note.new.self c.self.invariant r.plan r.base_past (room_left c.self.inside.journal.items c.self.inside.claims.items _ 1 (omega arith) r.room) (few_left c.self.invariant 1 r.not_full) noted)
+    (kept_commit c.prepared.inside.actor c.prepared.inside.base c.prepared.inside.edits c.prepared.inside.next c.prepared.inside.keys c.prepared.inside.rows.items c.prepared.inside.log c.self.invariant r.plan r.base_past (room_left c.self.inside.journal.items c.self.inside.claims.items _ 1 (omega arith) r.room) (few_left c.self.invariant 1 r.not_full) r.log_is)

@@ -13,6 +13,6 @@ invariant_of-self-2 c =
 
 pub returns-clause-given : goal.returns-clause-given
 returns-clause-given c = record {
-  snapshot = rw (c.new.ensures, c.in-Ok.ensures, ← c.self.view_is) c.self.invariant.model;
+  snapshot = rw (c.new.ensures, c.in-Ok.ensures, ← c.self.view_is) c.self.invariant.now;
   is_out = rw (c.push_reserved-2.ensures.items, reverse-append, c.new.ensures, c.in-Ok.ensures, c.revision-revision.ensures) (held_new c.self.invariant c.args.actor c.self.inside.current.revision c.args.pair.now);
 }

@@ -1,7 +1,5 @@
-use Rattle.model_view.proofs.Changed.{changed_keys_are}
+use Rattle.model_view.proofs.Doing.{keeps_others}
 use Rattle.model_view.proofs.snapshot.Snapshot.with_edits.Goals as goal
 
-pub returns-in-Ok-clause-changed : goal.returns-in-Ok-clause-changed
-returns-in-Ok-clause-changed c = λ k.
-    rw (c.in-Ok.ensures.ok, c.in_ok-keys.ensures, c.as_slice-2.ensures, c.as_slice-3.ensures, c.in_ok-list.ensures.value, c.as_slice.ensures, c.as_slice-now.ensures, c.deref.ensures, ← c.self.view_is)
-    (changed_keys_are _ _ k)
+pub changed_keys-requires : goal.changed_keys-requires
+changed_keys-requires c = keeps_others c.args.schema.now c.self.inside.content.model c.in_ok-content.content.model c.as_slice.result.now c.as_slice-2.result.now c.args.edits.now c.in_ok-content.ensures.model c.as_slice.ensures c.as_slice-2.ensures

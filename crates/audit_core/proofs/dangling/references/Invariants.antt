@@ -1,7 +1,0 @@
-use Rattle.std.proofs.Common.{◌≡◌, take}
-use Rattle.std.specs.List.{flat_map}
-use Rattle.ifc_base.specs.Refs.{refs_of}
-use Rattle.audit_core.proofs.dangling.references.Given as goal
-
-abbrev pub invariant-loop-value : goal.invariant-loop-value
-invariant-loop-value l = l.ids.items ≡ flat_map refs_of (take l.value-index l.value-items)

@@ -1,0 +1,5 @@
+use Rattle.audit_model.proofs.laws.closure_law.Goals as goal
+use Rattle.audit_model.proofs.NeedLaws as laws
+
+pub returns : goal.returns
+returns c = laws.closure_law

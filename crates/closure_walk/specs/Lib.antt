@@ -1,0 +1,5 @@
+pub mod Walking
+pub mod Laws
+pub mod Ties
+pub mod Table
+pub mod FacetRows

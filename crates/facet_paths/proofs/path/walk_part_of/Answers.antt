@@ -1,0 +1,5 @@
+use Rattle.facet_paths.proofs.WalkLaws.{part_of_walked}
+use Rattle.facet_paths.proofs.path.walk_part_of.Goals as goal
+
+pub returns : goal.returns
+returns g c = part_of_walked c.args.schema.now (g.L.Look.seen c.args.look.now) c.args.from c.args.relation c.in_ok-ends.ends.items c.args.reads.now.items c.ancestors_of.new.reads.items c.in_ok-ends.ensures

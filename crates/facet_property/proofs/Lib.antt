@@ -1,0 +1,8 @@
+pub mod Lists
+pub mod Three
+pub mod Drawn
+pub mod Asking
+pub mod Stored
+pub mod Sentence
+pub mod Weighed
+pub mod Whole

@@ -1,0 +1,12 @@
+pub mod KeyNumbers
+pub mod Trees
+pub mod Tests
+pub mod Differences
+pub mod IdLists
+pub mod Passing
+pub mod Refers
+pub mod Replacing
+pub mod Models
+pub mod Members
+pub mod Changing
+pub mod Gathering

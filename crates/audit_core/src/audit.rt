@@ -1,5 +1,6 @@
 ghost use Rattle.std.specs.Prelude.{◌≡◌, ◌≤◌, ◌<◌, ◌^◌, false, None, Some, [], length, reverse, find, IfOk, IfErr, OnOk};
-ghost use Rattle.audit_model.specs.Models.{HasDistinctIds, IsModel, model_of_file};
+ghost use Rattle.audit_model.specs.Models.{IsModel, model_of_file};
+ghost use Rattle.ifc_base.specs.Ids.{HasDistinctIds};
 ghost use Rattle.audit_model.specs.Specifications.{AreBuilt, AreSpecifications};
 ghost use Rattle.audit_model.specs.Scratch.{scratch};
 ghost use Rattle.audit_model.specs.History.{changed_since, current, last_change};

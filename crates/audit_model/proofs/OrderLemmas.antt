@@ -8,8 +8,9 @@ use Rattle.std.proofs.lemmas.Bool.{cases_Bool, or_cases, or_parts, ltb-true, ltb
 use Rattle.std.proofs.lemmas.List.Sums.{sum_by-cons}
 use Rattle.std.proofs.lemmas.List.Sorted.{list_any-IsPermutation, sum_by-IsPermutation}
 use Rattle.ifc_base.specs.declared.value.Instance.{Instance}
+use Rattle.ifc_base.specs.Ids.{has_id, HasDistinctIds}
 use Rattle.ifc_base.specs.Same.{instance_eq, instance_eq-Decides}
-use Rattle.audit_model.specs.Models.{AllAbove, IsModel, is_present, with_instance, HasDistinctIds, model_of_file}
+use Rattle.audit_model.specs.Models.{AllAbove, IsModel, is_present, with_instance, model_of_file}
 
 -- ---- the instances of a file's model
 
@@ -59,10 +60,18 @@ IsModel-with_instance x (y ∷ ys) model absent =
     rw above (AllAbove-with_instance y.id x ys (omega arith) model.0, IsModel-with_instance x ys model.1 apart.1))
     (cases_Bool (nat_lt x.id y.id))
 
+-- an id is looked for from either side
+same_test : (n m : ℕ) → (n == m) ≡ (m == n)
+same_test n m = ⊎_elim (λ same. same ∙ sym (eq-eqb m n (sym (eqb-true n m same)))) (λ other. other ∙ sym (ne_eqb m n (λ e. eqb-false n m other (sym e)))) (cases_Bool (n == m))
+
+present_by_id : (n : ℕ) (xs : List Instance) → is_present n xs ≡ has_id n xs
+present_by_id n [] = refl
+present_by_id n (x ∷ xs) = ap (λ (b : Bool). b || is_present n xs) (same_test x.id n) ∙ ap (λ (b : Bool). (n == x.id) || b) (present_by_id n xs)
+
 pub IsModel-model_of_file : (xs : List Instance) → HasDistinctIds xs → IsModel (model_of_file xs)
 IsModel-model_of_file [] distinct = tt
 IsModel-model_of_file (x ∷ xs) distinct =
-    IsModel-with_instance x (model_of_file xs) (IsModel-model_of_file xs distinct.1) (any-model_of_file (λ y. y.id == x.id) xs ∙ distinct.0)
+    IsModel-with_instance x (model_of_file xs) (IsModel-model_of_file xs distinct.1) (any-model_of_file (λ y. y.id == x.id) xs ∙ present_by_id x.id xs ∙ distinct.0)
 
 -- ---- a model is known by the tests that its instances pass
 
@@ -137,7 +146,7 @@ at_most_once i [] distinct = omega arith
 at_most_once i (x ∷ xs) distinct = ⊎_elim
     (λ same. let e = eqb-true x.id i same in
     let here : of_id i x ≡ 1 = ap (λ b. if b then 1 else 0) same in
-    let there : sum_by (of_id i) xs ≡ 0 = no_more i xs (ap (λ j. is_present j xs) (sym e) ∙ distinct.0) in
+    let there : sum_by (of_id i) xs ≡ 0 = no_more i xs (ap (λ j. is_present j xs) (sym e) ∙ present_by_id x.id xs ∙ distinct.0) in
     omega (arith, here, there, sum_by-cons (of_id i) x xs))
     (λ other. let here : of_id i x ≡ 0 = ap (λ b. if b then 1 else 0) other in
     let there = at_most_once i xs distinct.1 in

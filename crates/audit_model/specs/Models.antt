@@ -26,11 +26,6 @@ abbrev pub with_instance : Instance → List Instance → List Instance
 with_instance x [] = x ∷ []
 with_instance x (y ∷ ys) = if nat_lt x.id y.id then x ∷ y ∷ ys else y ∷ with_instance x ys
 
--- no id stands twice, in whatever order (ISO 10303-21: an entity instance name is unique in its file)
-abbrev pub HasDistinctIds : List Instance → Type 0
-HasDistinctIds [] = Unit {0}
-HasDistinctIds (x ∷ xs) = (is_present x.id xs ≡ false) × HasDistinctIds xs
-
 -- The model of a file: its instances, ordered by id.
 abbrev pub model_of_file : List Instance → List Instance
 model_of_file [] = []

@@ -1,5 +1,6 @@
 ghost use Rattle.std.specs.Prelude.{◌≡◌, IfOk, length};
-ghost use Rattle.audit_model.specs.Models.{HasDistinctIds, IsModel, model_of_file};
+ghost use Rattle.audit_model.specs.Models.{IsModel, model_of_file};
+ghost use Rattle.ifc_base.specs.Ids.{HasDistinctIds};
 
 use ifc_base::{Instances, Memory};
 

@@ -1,5 +1,5 @@
 ghost use Rattle.std.specs.Prelude.{◌≡◌, true, None, length, IfOk};
-ghost use Rattle.audit_model.specs.Models.{HasDistinctIds};
+ghost use Rattle.ifc_base.specs.Ids.{HasDistinctIds};
 ghost use Rattle.audit_model.specs.Specifications.{AreBuilt, AreSpecifications, IsSpecification, is_built_specification};
 
 use audit_model::{

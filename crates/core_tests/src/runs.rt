@@ -1,5 +1,5 @@
 ghost use Rattle.std.specs.Prelude.{◌≡◌, ◌≤◌, length};
-ghost use Rattle.audit_model.specs.Models.{HasDistinctIds};
+ghost use Rattle.ifc_base.specs.Ids.{HasDistinctIds};
 
 use crate::fixtures::{file, schema, specifications};
 use crate::rows::Change::{Add, Remove, Set};

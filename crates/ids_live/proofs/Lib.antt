@@ -1,5 +1,4 @@
 pub mod Arriving
-pub mod Filed
 pub mod Telling
 pub mod Completeness
 pub mod Ends

@@ -1,4 +1,4 @@
-ghost use Rattle.std.specs.Prelude.{◌≡◌, ◌↔◌, IsTrue};
+ghost use Rattle.std.specs.Prelude.{◌≡◌, ◌+◌, ◌≤◌, ◌↔◌, IsTrue};
 ghost use Rattle.std.proofs.Common.{rules};
 ghost use Rattle.std.specs.Cmp.{partial_order_from_own_ties, partial_equiv_from_equiv};
 ghost use Rattle.std.specs.Cmp.Rules.{comparing};
@@ -52,17 +52,18 @@ pub enum Key {
 pub type Keys = Listed<Key>;
 
 impl Role {
-    /// The place in the order of roles, from 0. `O(1)`.
-    fn rank(self) -> u8
-        ensures { result ≡ role_rank self }
+    /// The number of the role in their order, 1 to 10. `O(1)`.
+    pub fn number(self) -> u8
+        ensures value { result ≡ role_rank self + 1 }
+        ensures room { result ≤ 10 }
     {
-        self as u8
+        self as u8 + 1
     }
 }
 
 impl Key {
     /// The id that the key speaks of, whichever kind it is. `O(1)`.
-    pub fn id(self) -> InstId
+    fn id(self) -> InstId
         ensures { result ≡ key_id self }
     {
         match self {
@@ -77,7 +78,7 @@ impl Key {
     {
         match self {
             Key::Inst(_) => 0,
-            Key::Refs(_, role) => role.rank() + 1,
+            Key::Refs(_, role) => role.number(),
         }
     }
 }

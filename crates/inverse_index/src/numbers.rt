@@ -9,18 +9,7 @@ fn rank(role: Role) -> u64
     ensures value { result ≡ role_rank role }
     ensures room { result < 16 }
 {
-    match role {
-        Role::Properties => 0,
-        Role::Kind => 1,
-        Role::Classification => 2,
-        Role::Material => 3,
-        Role::Aggregates => 4,
-        Role::Nests => 5,
-        Role::Contained => 6,
-        Role::Group => 7,
-        Role::Voids => 8,
-        Role::Fills => 9,
-    }
+    u64::from(role.number()) - 1
 }
 
 /// The first number of the block of an id.

@@ -2,7 +2,8 @@ ghost use Rattle.std.specs.Prelude.{◌≡◌, ℕ, ◌+◌, ◌<◌, length, ma
 ghost use Rattle.std.specs.Option.{option_copied};
 ghost use Rattle.ifc_base.specs.declared.key.Key.{Key};
 ghost use Rattle.ifc_base.specs.declared.value.Instance.{Instance};
-ghost use Rattle.audit_model.specs.Models.{HasDistinctIds, IsModel, model_of_file};
+ghost use Rattle.audit_model.specs.Models.{IsModel, model_of_file};
+ghost use Rattle.ifc_base.specs.Ids.{HasDistinctIds};
 ghost use Rattle.audit_model.specs.Edits.{apply};
 ghost use Rattle.audit_model.specs.Keys.{changes, holders};
 ghost use Rattle.inverse_index.specs.Index.{has_key, Indexes};

@@ -24,11 +24,12 @@ use Rattle.p21_read.specs.Tokens.{token}
 use Rattle.p21_read.specs.Values.{in_range}
 use Rattle.p21_read.specs.Instances.{semicolon, closed, row, instance_of}
 use Rattle.p21_read.specs.Headers.{section_word, heading, header}
-use Rattle.p21_read.specs.Files.{has_id, placed, instance, data_word, data_by, data_turn, data_parameters, data_open_by, data_open, data_section, first_word, first_section, further_word, section_turn, sections, file_of, whole_file}
+use Rattle.ifc_base.specs.Ids.{has_id, HasDistinctIds}
+use Rattle.p21_read.specs.Files.{placed, instance, data_word, data_by, data_turn, data_parameters, data_open_by, data_open, data_section, first_word, first_section, further_word, section_turn, sections, file_of, whole_file}
 use Rattle.p21_read.specs.Readings.{file_reading}
 use Rattle.p21_read.specs.TokenGrammar.{Next}
 use Rattle.p21_read.specs.Grammar.{IsInstance}
-use Rattle.p21_read.specs.FileGrammar.{IsHeading, IsLine, Opens, Rows, IsSection, Sections, HaveDistinctIds, ReadsFile}
+use Rattle.p21_read.specs.FileGrammar.{IsHeading, IsLine, Opens, Rows, IsSection, Sections, ReadsFile}
 use Rattle.p21_read.proofs.TokenLaws.{token_sound, token_complete, next_shorter, word_shorter}
 use Rattle.p21_read.proofs.InstanceLaws.{semicolon_complete, parameters_from, parameters_shorter, closed_complete, in_range_is, instance_sound, row_complete, instance_shorter}
 use Rattle.p21_read.proofs.HeaderLaws.{heading_sound, heading_complete, line_complete, line_from, line_shorter, header_sound, header_complete}
@@ -37,7 +38,7 @@ use Rattle.p21_read.proofs.HeaderLaws.{heading_sound, heading_complete, line_com
 
 -- what is asked of the instances of a file
 pub record Fits (most : ℕ) (xs : List Instance) : Type 0 where
-  pub distinct : HaveDistinctIds xs
+  pub distinct : HasDistinctIds xs
   pub few : length xs ≤ most
 
 both_false : (a b : Bool) → a ≡ false → b ≡ false → (a || b) ≡ false
@@ -49,14 +50,14 @@ other_way m n e = grind (arith, nat_tests)
 abbrev is_of : ℕ → Instance → Bool
 is_of n x = eqb n x.id
 
-distinct_one : (s : List Instance) (x : Instance) → HaveDistinctIds s → has_id x.id s ≡ false → HaveDistinctIds (s ++ x ∷ [])
+distinct_one : (s : List Instance) (x : Instance) → HasDistinctIds s → has_id x.id s ≡ false → HasDistinctIds (s ++ x ∷ [])
 distinct_one [] x d new = (refl, tt)
 distinct_one (y ∷ s) x d new =
     let n = or_parts (eqb x.id y.id) (has_id x.id s) new in
     let last : has_id y.id (x ∷ []) ≡ false = both_false (eqb y.id x.id) false (other_way x.id y.id n.0) refl in
     (list_any-append (is_of y.id) s (x ∷ []) ∙ both_false (has_id y.id s) (has_id y.id (x ∷ [])) d.0 last, distinct_one s x d.1 n.1)
 
-new_one : (s : List Instance) (x : Instance) (xs : List Instance) → HaveDistinctIds (s ++ x ∷ xs) → has_id x.id s ≡ false
+new_one : (s : List Instance) (x : Instance) (xs : List Instance) → HasDistinctIds (s ++ x ∷ xs) → has_id x.id s ≡ false
 new_one [] x xs d = refl
 new_one (y ∷ s) x xs d =
     let n = or_parts (has_id y.id s) (has_id y.id (x ∷ xs)) (sym (list_any-append (is_of y.id) s (x ∷ xs)) ∙ d.0) in
@@ -307,7 +308,7 @@ first_word_is most w.Data at m x e = (refl, e)
 first_word_is most other at m x e = absurd cc
 
 -- fewer instances, those at the front of others
-front_distinct : (s xs : Listed) → HaveDistinctIds (s ++ xs) → HaveDistinctIds s
+front_distinct : (s xs : Listed) → HasDistinctIds (s ++ xs) → HasDistinctIds s
 front_distinct [] xs d = tt
 front_distinct (y ∷ s) xs d = let n = or_parts (has_id y.id s) (has_id y.id xs) (sym (list_any-append (is_of y.id) s xs) ∙ d.0) in (n.0, front_distinct s xs d.1)
 

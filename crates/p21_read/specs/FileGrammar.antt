@@ -11,7 +11,7 @@ use Rattle.p21_read.specs.declared.section.SectionWord.{SectionWord}
 use Rattle.p21_read.specs.declared.section.SectionWord.TheVariants as w
 use Rattle.p21_read.specs.declared.file.P21File.{P21File}
 use Rattle.p21_read.specs.Headers.{section_word, schema_id}
-use Rattle.p21_read.specs.Files.{has_id}
+use Rattle.ifc_base.specs.Ids.{HasDistinctIds}
 use Rattle.p21_read.specs.TokenGrammar.{Next}
 use Rattle.p21_read.specs.Grammar.{Parameters, IsInstance}
 
@@ -90,11 +90,6 @@ pub data Sections : Text → List Instance → Text → Type 0 where
 
 -- ---- the file
 
--- no instance has the id of one behind it
-abbrev pub HaveDistinctIds : List Instance → Type 0
-HaveDistinctIds [] = Unit {0}
-HaveDistinctIds (x ∷ xs) = (has_id x.id xs ≡ false) × HaveDistinctIds xs
-
 -- The bytes spell a file of at most so many instances: the header, one or more data sections, and `END-ISO-10303-21;`. What follows isn't looked
 -- at.
 pub record ReadsFile (most : ℕ) (bytes : List ℕ) (file : P21File) : Type 0 where
@@ -107,5 +102,5 @@ pub record ReadsFile (most : ℕ) (bytes : List ℕ) (file : P21File) : Type 0 w
   pub one : IsSection sections first further
   pub more : Sections further others rest
   pub kept : file.instances ≡ first ++ others
-  pub distinct : HaveDistinctIds file.instances
+  pub distinct : HasDistinctIds file.instances
   pub few : length file.instances ≤ most

@@ -1,7 +1,7 @@
 -- Whole files, over tokens (ISO 10303-21, exchange structure and data sections).
 use Rattle.std.specs.Prelude.{ℕ, Bool, true, false, List, [], ◌∷◌, ◌++◌, None, Result, Ok, Err, ◌==◌, nat_le, length, if◌then◌else◌}
-use Rattle.std.specs.List.{list_any}
 use Rattle.ifc_base.specs.declared.value.Instance.{Instance}
+use Rattle.ifc_base.specs.Ids.{has_id}
 use Rattle.reading.specs.Reading.{Text, Read, Refused, ◌>>=◌, refuse, all_turns}
 use Rattle.p21_read.specs.declared.fault.P21Cause.{P21Cause}
 use Rattle.p21_read.specs.declared.fault.P21Cause.TheVariants.{BadToken, OtherSection, IdTwice, TooManyInstances}
@@ -16,10 +16,6 @@ use Rattle.p21_read.specs.Instances.{semicolon, closed, row, instance_of}
 use Rattle.p21_read.specs.Headers.{section_word, heading, header}
 
 -- ---- instances
-
--- one of the instances has this id
-abbrev pub has_id : ℕ → List Instance → Bool
-has_id n xs = list_any (λ (x : Instance). n == x.id) xs
 
 -- the instances with one more, which stands at `at`, if its id is new and there may be one more
 unfoldable pub placed : ℕ → List Instance → Text → Instance → Result (List Instance) (Refused P21Cause)

@@ -24,7 +24,7 @@ impl Model for Gathered {
     ghost use Rattle.std.specs.Prelude.{◌≡◌, ℕ, List, ◌==◌};
     ghost use Rattle.std.specs.List.{list_any};
     ghost use Rattle.ifc_base.specs.declared.value.Instance.{Instance};
-    ghost use Rattle.p21_read.specs.Files.{has_id};
+    ghost use Rattle.ifc_base.specs.Ids.{has_id};
     ghost use Rattle.ifc_base.specs.contracts.value.Value as value;
     ghost use Rattle.std.specs.Coded.{codes};
 

@@ -7,10 +7,14 @@ ghost use Rattle.reading.specs.Lines as spec;
 use crate::cursor::Cursor;
 use crate::stop::Stop;
 use ifc_base::Refusal;
+use std::fmt::Display;
+use thiserror::Error;
 
 /// The first fault of a text: its cause, and the line in which the refused token begins, from 1. A line
 /// past 4,294,967,295 is that.
-#[derive(Clone, Copy, Debug, PartialEq, Eq)]
+#[derive(Clone, Copy, Debug, PartialEq, Eq, Error)]
+#[error_bound(C: Display)]
+#[error("line {line}: {why}")]
 pub struct Fault<C> {
     pub line: u32,
     pub why: C,

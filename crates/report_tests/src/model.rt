@@ -1,5 +1,5 @@
 ghost use Rattle.std.specs.Prelude.{◌≡◌, IfOk};
-ghost use Rattle.audit_model.specs.Models.{HasDistinctIds};
+ghost use Rattle.ifc_base.specs.Ids.{HasDistinctIds};
 
 use audit_model::in_order;
 use ifc_base::{InstId, Instance, Instances, Memory, Name, Values};

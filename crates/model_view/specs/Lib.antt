@@ -1,3 +1,4 @@
 pub mod Views
 pub mod Trees
 pub mod Dangles
+pub mod Findings

@@ -96,9 +96,7 @@ pub fn schema(alloc: Global) -> Result<SchemaTable, Fail> {
 }
 
 /// The entity facet of this one name.
-fn is_entity(alloc: Global, name: &str) -> Result<EntityFacet, Memory>
-    ensures { IfOk result (λ facet. facet.predefined ≡ None) }
-{
+fn is_entity(alloc: Global, name: &str) -> Result<EntityFacet, Memory> {
     let name = Name::from_str(alloc, name)?;
     Ok(EntityFacet {
         name: Restriction::simple(name),

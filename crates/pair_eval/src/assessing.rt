@@ -40,8 +40,15 @@ fn assess<L: Look>(
         return Ok(Verdict::NotApplicable);
     }
     let requirements = spec.requirements.as_slice();
-    let verdict =
-        verdict_where_applicable(alloc, schema, look, elem, spec.occurs, requirements, reads)?;
+    let verdict = verdict_where_applicable(
+        alloc,
+        schema,
+        look,
+        elem,
+        spec.occurs,
+        requirements,
+        reads,
+    )?;
     Ok(verdict)
 }
 

@@ -15,6 +15,7 @@ use schema_table::SchemaTable;
 use std::alloc::Global;
 
 /// Evaluates claims by these specifications under this schema, by all kinds of facet.
+#[derive(Clone, Copy)]
 pub struct Evaluator<'a> {
     pub schema: &'a SchemaTable,
     pub specs: &'a [Specification],

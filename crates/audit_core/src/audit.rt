@@ -1,7 +1,7 @@
 ghost use Rattle.std.specs.Prelude.{◌≡◌, ◌≤◌, ◌<◌, ◌^◌, false, None, Some, [], length, reverse, find, IfOk, IfErr, OnOk};
 ghost use Rattle.audit_model.specs.Models.{IsModel, model_of_file};
 ghost use Rattle.ifc_base.specs.Ids.{HasDistinctIds};
-ghost use Rattle.audit_model.specs.Specifications.{AreBuilt, AreSpecifications};
+ghost use Rattle.audit_model.specs.Specifications.{AreSpecifications};
 ghost use Rattle.audit_model.specs.Scratch.{scratch};
 ghost use Rattle.audit_model.specs.History.{changed_since, current, last_change};
 ghost use Rattle.audit_model.specs.Machine.{is_full, least_claimable, least_unsettled, Legal, MayFollow, pairs_now};
@@ -74,9 +74,8 @@ impl<'a> Model for Core<'a> {
 impl<'a> Core<'a> {
     /// A core over the model of this file, without entries. It refuses a file of another schema than
     /// `IFC4`; else, if an instance doesn't fit the schema, it tells the least id of such a one, and why.
-    /// The ids of the instances have to be distinct, there may be at most `limits.instances` of them, and
-    /// of the specifications each facet has to be of a kind whose evaluation is built. Besides, it may
-    /// refuse for want of memory.
+    /// The ids of the instances have to be distinct, and there may be at most `limits.instances` of them.
+    /// Besides, it may refuse for want of memory.
     /// `O(n log n + s * n)` for `n` instances and `s` specifications.
     pub fn new(
         alloc: Global,
@@ -88,7 +87,6 @@ impl<'a> Core<'a> {
         requires distinct { HasDistinctIds file.instances }
         requires few { length file.instances ≤ limits.instances }
         requires specifications { AreSpecifications specs.now }
-        requires built { AreBuilt specs.now }
         ensures ground { IfOk result
             (λ core. core.ground ≡ record { schema = schema.now; specs = specs.now; first = model_of_file file.instances; limits = limits }) }
         ensures history { IfOk result (λ core. core.history ≡ []) }

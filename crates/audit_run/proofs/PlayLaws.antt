@@ -10,6 +10,7 @@ use Rattle.audit_model.specs.declared.step.Reply.TheVariants as reply
 use Rattle.audit_model.specs.History.{revision, out, claim_numbered}
 use Rattle.audit_model.specs.Machine.{Legal, MayFollow}
 use Rattle.audit_model.proofs.Tests.{Each, Each-all, Each-weaker}
+use Rattle.model_view.specs.Findings.{IsFindingOf}
 use Rattle.model_view.specs.Views.{ClaimView, DraftView, FindingView, SnapshotView}
 use Rattle.model_view.specs.declared.answers.NotPrepared.{NotPrepared}
 use Rattle.model_view.specs.declared.answers.NotPrepared.TheVariants as unprepared
@@ -25,7 +26,7 @@ use Rattle.audit_run.specs.declared.hands.Taken.{Taken}
 use Rattle.audit_run.specs.declared.calls.Act.{Act}
 use Rattle.audit_run.specs.declared.calls.Act.TheVariants as act
 use Rattle.audit_run.specs.declared.calls.Asked.{Asked}
-use Rattle.audit_run.specs.Holding.{HandsView, IsTaken, AreTaken, AreBegun, begins, has_begun, taken_as, claim_of, other_claims, IsFindingOf}
+use Rattle.audit_run.specs.Holding.{HandsView, IsTaken, AreTaken, AreBegun, begins, has_begun, taken_as, claim_of, other_claims}
 use Rattle.audit_run.specs.Runs.{IsCallOf, IsEntryOf, IsStep, IsRun, reported, reports, IsHolding, IsPlayed, IsPlay}
 use Rattle.audit_run.proofs.HoldLaws.{LeavesOut, Differs, AreParted, all_taken, taken_more, delivery_leaves, return_leaves, parted_first, begun_more, begun_push}
 
@@ -120,7 +121,7 @@ out_of {core = core} {hands = hands} {actor = actor} {claim = claim} k e r = rw 
 pub true_finding : {core : CoreView} {actor : ℕ} {claim : ClaimView} {finding : FindingView} → IsTaken core.ground core.history (record { actor = actor; claim = claim }) → IsFindingOf core.ground.schema core.ground.specs claim finding → IsTrueFinding core actor finding
 true_finding k f = record {
   is_out = rw f.claim_is k.is_out;
-  snapshot_is = rw f.claim_is k.snapshot_is;
+  snapshot_is = rw f.claim_is k.snapshot_is.model;
   verdict_is = rw f.claim_is f.verdict_is;
   needs_are = rw f.claim_is f.needs_are;
 }

@@ -21,8 +21,7 @@ use Rattle.audit_model.proofs.Numbers.{out_numbers, claim_number}
 use Rattle.audit_model.proofs.RunLegal.{revision_grows}
 use Rattle.audit_model.proofs.Tests.{Each, Each-found, or_true, Each-all}
 use Rattle.model_view.specs.Views.{ClaimView}
-use Rattle.audit_core.specs.Cores.{IsNow}
-use Rattle.audit_core.specs.Steps.{given_of}
+use Rattle.model_view.specs.Answers.{given_of, IsNow}
 use Rattle.audit_run.specs.declared.hands.Begun.{Begun}
 use Rattle.audit_run.specs.declared.hands.Taken.{Taken}
 use Rattle.audit_run.specs.Holding.{IsTaken, AreTaken, AreLater, AreBegun, is_began, begins, has_begun, begun_on, taken_as, drafted_by, taken_by, draft_of, other_drafts, claim_of, other_claims}

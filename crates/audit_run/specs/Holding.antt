@@ -1,14 +1,14 @@
 -- What actors hold between their calls.
-use Rattle.std.specs.Prelude.{◌≡◌, ℕ, ◌<◌, Bool, true, false, ◌&&◌, ◌==◌, List, [], ◌∷◌, ◌++◌, length, nat_lt, Option, Some, find}
+use Rattle.std.specs.Prelude.{◌≡◌, ℕ, ◌<◌, Bool, true, false, ◌&&◌, ◌==◌, List, [], ◌∷◌, ◌++◌, length, nat_lt, Option, find}
 use Rattle.std.specs.List.{list_any, before_first, after_first}
 use Rattle.audit_model.specs.declared.step.StepRec.{StepRec}
 use Rattle.audit_model.specs.declared.step.Reply.{Reply}
 use Rattle.audit_model.specs.declared.step.Reply.TheVariants.{Began}
-use Rattle.audit_model.specs.History.{Ground, model_at, out, claim_numbered}
+use Rattle.audit_model.specs.History.{Ground, model_at}
 use Rattle.model_view.specs.Views.{ClaimView, IsSnapshotOf, SnapshotView}
+use Rattle.model_view.specs.Answers.{IsOut}
 use Rattle.audit_run.specs.declared.hands.Begun.{Begun}
 use Rattle.audit_run.specs.declared.hands.Taken.{Taken}
-use Rattle.audit_core.specs.Steps.{given_of}
 
 -- what contracts see of hands: the snapshots on which drafts were begun, and the claims that were taken, each with its actor
 pub record HandsView : Type 0 where
@@ -17,7 +17,7 @@ pub record HandsView : Type 0 where
 
 -- After the history h the claim is out, and its snapshot is one of the model of its revision.
 pub record IsTaken (g : Ground) (h : List StepRec) (taken : Taken) : Type 0 where
-  pub is_out : claim_numbered taken.claim.number (out h) ≡ Some (given_of taken.actor taken.claim)
+  pub is_out : IsOut h taken.actor taken.claim
   pub snapshot_is : IsSnapshotOf g.schema (model_at g h taken.claim.snapshot.revision) taken.claim.snapshot.revision taken.claim.snapshot
 
 -- these claims have greater numbers

@@ -19,7 +19,8 @@ use Rattle.model_view.specs.Views.{DraftView, FindingView}
 use Rattle.model_view.specs.declared.answers.Halt.{Halt}
 use Rattle.model_view.specs.declared.answers.Halt.TheVariants as halt
 use Rattle.audit_core.specs.Cores.{CoreView}
-use Rattle.audit_core.specs.Steps.{Adds, Unchanged, IsHalted, given_of}
+use Rattle.model_view.specs.Answers.{given_of}
+use Rattle.audit_core.specs.Steps.{Adds, Unchanged, IsHalted}
 use Rattle.serial_run.specs.declared.editor.Editor.{Editor}
 use Rattle.serial_run.specs.declared.editor.Held.{Held}
 use Rattle.serial_run.specs.declared.editor.Held.TheVariants as held

@@ -1,6 +1,6 @@
 use Rattle.std.proofs.Common.{◌≡◌, ◌∙◌, ap, sym}
 use Rattle.model_view.specs.Views.{ClaimView, FindingView}
-use Rattle.audit_core.specs.Steps.{delivery_told}
+use Rattle.model_view.specs.Answers.{delivery_told}
 use Rattle.audit_run.specs.declared.calls.Act.TheVariants as act
 use Rattle.audit_run.specs.Holding.{claim_of, taken_as, taken_by}
 use Rattle.audit_run.proofs.ActLaws.{give_done, give_back_done, give_none, none_held}

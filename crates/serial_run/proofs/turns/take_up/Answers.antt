@@ -1,4 +1,4 @@
-use Rattle.std.proofs.Common.{◌≡◌, ap, sym, ◌∙◌}
+use Rattle.std.proofs.Common.{◌≡◌}
 use Rattle.std.proofs.lemmas.Result.{err_from_is_err_and}
 use Rattle.serial_run.proofs.Turning.{halted_turn, found, took, cut_behind}
 use Rattle.serial_run.proofs.turns.take_up.Goals as goal

@@ -82,7 +82,7 @@ module _ (s : Schema) where
       subst (IsNumbered number) p.4 (
         refl,
         record {
-          few_facets = subst (λ k. k ≤ 64) (sym (length-map (λ r. r.facet) p.0 ∙ n)) few.0;
+          few_facets = subst (λ k. k ≤ 64) (sym (length-map p.0 (λ r. r.facet) ∙ n)) few.0;
           few_requirements = subst (λ k. k ≤ 64) (sym m) few.1;
           one_entity = one_entity s number for_model 1 false facets p.0 p.2;
           cardinalities = each_as_asked s number for_model (1 + length facets) false asked p.1 p.3;

@@ -1,5 +1,5 @@
 -- One turn over the facets of a side.
-use Rattle.std.proofs.Common.{◌≡◌, ◌∙◌, ℕ, ◌+◌, ◌<◌, ◌≤◌, ◌++◌, ◌∷◌, [], Bool, List, Ok, Err, length, get_or, map, drop, ap, append-nil}
+use Rattle.std.proofs.Common.{◌≡◌, ◌∙◌, ℕ, ◌+◌, ◌<◌, ◌≤◌, ◌++◌, ◌∷◌, [], Bool, List, Ok, Err, length, get_or, map, drop, ap, append-nil, refl}
 use Rattle.std.proofs.lemmas.List.{at_drop_all, length-map}
 use Rattle.serde_json.specs.View.{view}
 use Rattle.serde_json.specs.declared.value.Value.{Value}
@@ -8,7 +8,7 @@ use Rattle.audit_model.specs.declared.specification.Requirement.{Requirement}
 use Rattle.ids_reader.specs.declared.fault.IdsFault.{IdsFault}
 use Rattle.ids_reader.specs.declared.standing.Setting.{Setting}
 use Rattle.ids_reader.specs.Reads.{Placed, ◌>>>◌}
-use Rattle.ids_reader.specs.Sides.{facet_at, facets_from, closed_after}
+use Rattle.ids_reader.specs.Sides.{facet_at, facets_from, closed_after, alone}
 use Rattle.ids_reader.proofs.MembersLemmas.{value_at}
 use Rattle.ids_reader.proofs.ReadsLemmas.{behind, behind_one}
 
@@ -41,3 +41,8 @@ module _ (s : Schema) (t : Setting) where
   unfolding facets_from
   at_end before place closed xs i h =
       ap (behind before) (at_drop_all (facets_from s t place closed) (map view xs) i (simp length-map h)) ∙ ap Ok (append-nil before)
+
+pub alone_more : (rs : List Requirement) (r : Requirement) → alone (rs ++ r ∷ []) ≡ alone rs ++ r.facet ∷ []
+unfolding alone
+alone_more [] r = refl
+alone_more (x ∷ rs) r = ap (λ fs. x.facet ∷ fs) (alone_more rs r)

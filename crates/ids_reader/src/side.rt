@@ -127,13 +127,23 @@ pub(crate) fn facets_of(
     Ok(Listed::from_vec(found))
 }
 
+/// The facets of these requirements, in their order.
+fn facets_in(alloc: Global, requirements: Vec<Requirement>) -> Result<Vec<Facet>, Memory>
+    ensures { IfOk result (λ facets. facets.items ≡ spec.alone requirements.items) }
+{
+    let mut facets = Vec::new(alloc);
+    for requirement in requirements {
+        facets.push(requirement.facet)?;
+    }
+    Ok(facets)
+}
+
 /// The facets without their cardinalities.
 pub(crate) fn alone(alloc: Global, requirements: Requirements) -> Result<Facets, Memory>
     ensures { IfOk result (λ facets. facets ≡ spec.alone requirements) }
 {
-    let mut facets = Vec::new(alloc);
-    for requirement in requirements.into_vec() {
-        facets.push(requirement.facet)?;
-    }
-    Ok(Listed::from_vec(facets))
+    Ok(Listed::from_vec(facets_in(
+        alloc,
+        requirements.into_vec(),
+    )?))
 }

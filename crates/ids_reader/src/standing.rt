@@ -15,7 +15,7 @@ use ifc_base::Refusal;
 use serde_json::Value;
 
 /// A side of a specification.
-#[derive(Clone, Copy, Debug, PartialEq, Eq)]
+#[derive(Clone, Copy, Debug)]
 pub(crate) enum Side {
     Applicability,
     Requirements,

@@ -3,7 +3,7 @@ ghost use Rattle.std.specs.Prelude.{◌≡◌};
 ghost use Rattle.ids_reader.specs.Tables.{rows, table};
 
 /// What stands at a member.
-#[derive(Clone, Copy, Debug, PartialEq, Eq)]
+#[derive(Clone, Copy, Debug)]
 pub(crate) enum Kind {
     /// Whatever it is; it isn't looked at.
     Any,
@@ -26,7 +26,7 @@ pub(crate) enum Kind {
 }
 
 /// An object of the mapping.
-#[derive(Clone, Copy, Debug, PartialEq, Eq)]
+#[derive(Clone, Copy, Debug)]
 pub(crate) enum Object {
     Document,
     Specification,
@@ -43,7 +43,7 @@ pub(crate) enum Object {
 }
 
 /// A kind of facet (IDS 1.0, facets).
-#[derive(Clone, Copy, Debug, PartialEq, Eq)]
+#[derive(Clone, Copy, Debug)]
 pub(crate) enum FacetKind {
     Entity,
     Attribute,

@@ -66,7 +66,7 @@ IsNumbered number q = (q.number ≡ number) × IsSpecification q
 
 module _ (s : Schema) where
   stated_is : (number : ℕ) (for_model : Bool) (a d : Data) (q : Specification) → stated_by s number for_model a d ≡ Ok q → IsNumbered number q
-  unfolding stated_by, alone
+  unfolding stated_by alone
   stated_is number for_model a d q h =
       let facets = items_at (codes "facets") a in
       let asked = items_at (codes "requirements") d in

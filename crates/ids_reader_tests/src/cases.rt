@@ -208,6 +208,7 @@ const OBJECTS: &str = "0 0|whole|!'specifications':[]|?'info':{'any':[1]}
 1 1|restriction|!'base':'xs:decimal'|'minExclusive':'1'|'maxExclusive':'2'|'length':'1'";
 
 /// A member of an object: the mark before it, its name with the colon, and its value.
+#[derive(Clone, Copy)]
 struct Part<'t> {
     mark: char,
     name: &'t str,

@@ -1,5 +1,5 @@
 -- A facet that is read may stand where it stands, with its cardinality.
-use Rattle.std.proofs.Common.{◌≡◌, ◌∙◌, ◌&&◌, ◌∷◌, [], ℕ, Bool, true, false, not, List, Option, Some, None, Ok, Err, sym, ap, refl, subst}
+use Rattle.std.proofs.Common.{◌≡◌, ◌∙◌, ◌&&◌, ℕ, Bool, true, false, not, Option, Some, None, Ok, Err, sym, ap, refl, subst}
 use Rattle.std.specs.Prelude.{⊤}
 use Rattle.serde_json.specs.Data.{Data}
 use Rattle.schema_table.specs.Schema.{Schema}
@@ -15,7 +15,7 @@ use Rattle.ids_reader.specs.declared.standing.Side.TheVariants as side
 use Rattle.ids_reader.specs.declared.tables.FacetKind.{FacetKind}
 use Rattle.ids_reader.specs.declared.tables.FacetKind.TheVariants as kind
 use Rattle.ids_reader.specs.Facets.{value_of, entity_of, attribute_of, property_of, classification_of, material_of, part_of_of, names_unknown}
-use Rattle.ids_reader.specs.Reads.{Read, ◌>>=◌, refuse_if, Placed, placed}
+use Rattle.ids_reader.specs.Reads.{Read, ◌>>=◌, refuse_if}
 use Rattle.ids_reader.specs.Sides.{declared_of, facet_of, facet_at}
 use Rattle.ids_reader.specs.Standing.{word_from, word_of, kind_said, is_entity_kind, may_require, is_allowed, allowed_from, cardinality_of, cardinality_said, form_of, object_of, size_of, head_of}
 use Rattle.ids_reader.proofs.ReadsLemmas.{ok_is, passed, is_passed, at_place}

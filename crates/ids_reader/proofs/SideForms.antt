@@ -1,6 +1,6 @@
 -- The facets of a side that are read: as many as were given, with cardinalities that they may have, and at most one entity facet in an
 -- applicability.
-use Rattle.std.proofs.Common.{◌≡◌, ◌∙◌, ◌+◌, ◌≤◌, ◌&&◌, ◌||◌, ◌∷◌, [], ℕ, suc, Bool, true, false, cond, List, Ok, Err, length, map, sym, ap, ap₂, refl, subst, arith}
+use Rattle.std.proofs.Common.{◌≡◌, ◌∙◌, ◌+◌, ◌≤◌, ◌&&◌, ◌||◌, ◌∷◌, [], ℕ, suc, Bool, true, false, cond, List, Ok, length, map, sym, ap, ap₂, refl, subst, arith}
 use Rattle.std.specs.Prelude.{count_by}
 use Rattle.std.specs.List.{list_all}
 use Rattle.std.proofs.lemmas.List.Sums.{sum_by-cons}
@@ -10,7 +10,6 @@ use Rattle.audit_model.specs.declared.facet.Facet.{Facet}
 use Rattle.audit_model.specs.declared.specification.Requirement.{Requirement}
 use Rattle.audit_model.specs.Specifications.{is_entity, may_be_asked}
 use Rattle.ids_reader.specs.declared.standing.Setting.{Setting}
-use Rattle.ids_reader.specs.Reads.{Placed, ◌>>>◌}
 use Rattle.ids_reader.specs.Sides.{facet_at, facets_from, closed_after, alone}
 use Rattle.ids_reader.specs.Specifications.{in_applicability, in_requirements}
 use Rattle.ids_reader.proofs.FacetForms.{placed_facet_stands}

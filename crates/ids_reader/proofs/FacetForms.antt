@@ -1,5 +1,5 @@
 -- A facet that is read may stand where it stands, with its cardinality.
-use Rattle.std.proofs.Common.{◌≡◌, ◌∙◌, ◌&&◌, ◌∷◌, [], ℕ, Bool, true, false, not, List, Option, Some, None, Ok, Err, sym, ap, refl, subst}
+use Rattle.std.proofs.Common.{◌≡◌, ◌∙◌, ◌&&◌, ℕ, Bool, true, false, not, Option, Some, None, Ok, Err, sym, ap, refl, subst}
 use Rattle.std.specs.Prelude.{⊤}
 use Rattle.serde_json.specs.Data.{Data}
 use Rattle.schema_table.specs.Schema.{Schema}
@@ -15,7 +15,7 @@ use Rattle.ids_reader.specs.declared.standing.Side.TheVariants as side
 use Rattle.ids_reader.specs.declared.tables.FacetKind.{FacetKind}
 use Rattle.ids_reader.specs.declared.tables.FacetKind.TheVariants as kind
 use Rattle.ids_reader.specs.Facets.{value_of, entity_of, attribute_of, property_of, classification_of, material_of, part_of_of, names_unknown}
-use Rattle.ids_reader.specs.Reads.{Read, ◌>>=◌, refuse_if, Placed, placed}
+use Rattle.ids_reader.specs.Reads.{Read, ◌>>=◌, refuse_if}
 use Rattle.ids_reader.specs.Sides.{declared_of, facet_of, facet_at}
 use Rattle.ids_reader.specs.Standing.{word_from, word_of, kind_said, is_entity_kind, may_require, is_allowed, allowed_from, cardinality_of, cardinality_said, form_of, object_of, size_of, head_of}
 use Rattle.ids_reader.proofs.ReadsLemmas.{ok_is, passed, is_passed, at_place}
@@ -31,7 +31,7 @@ of_kind kind make (Ok x) f each h = subst (IsOfKind kind) (ok_is (make x) f (Ok 
 of_kind kind make (Err why) f each h = cc
 
 value_kind : (kind : FacetKind) (d : Data) (f : Facet) → value_of kind d ≡ Ok f → IsOfKind kind f
-unfolding value_of, is_entity_kind, may_require
+unfolding value_of is_entity_kind may_require
 value_kind kind.Entity d f h = of_kind kind.Entity (λ x. facet.Entity x) (entity_of d) f (λ x. (refl, λ c. refl)) h
 value_kind kind.Attribute d f h = of_kind kind.Attribute (λ x. facet.Attribute x) (attribute_of d) f (λ x. (refl, λ c. refl)) h
 value_kind kind.Property d f h = of_kind kind.Property (λ x. facet.Property x) (property_of d) f (λ x. (refl, λ c. refl)) h
@@ -87,7 +87,7 @@ cardinality_stands side kind (Some x) c h =
 
 head_stands : (side : Side) (closed : Bool) (d : Data) (head : FacetKind × Cardinality) → head_of side closed d ≡ Ok head
     → ((closed && is_entity_kind head.0) ≡ false) × (is_allowed side head.0 head.1 ≡ true)
-unfolding head_of, word_of, cardinality_of
+unfolding head_of word_of cardinality_of
 head_stands side closed d head h =
     let p = head_taken (word_of closed d) (λ k. form_of (object_of k) d) (λ k. cardinality_of side k d) (λ k. size_of (object_of k) d) head h in
     (word_stands closed (kind_said d) head.0 p.0, cardinality_stands side head.0 (cardinality_said d) head.1 p.1)
@@ -104,7 +104,7 @@ as_asked side.Requirements kind c r is e h = is.1 r.cardinality ∙ ap (may_requ
 
 facet_stands : (s : Schema) (t : Setting) (closed : Bool) (d : Data) (r : Requirement) → facet_of s t closed d ≡ Ok r
     → ((closed && is_entity r.facet) ≡ false) × IsAsAsked t.side r
-unfolding facet_of, declared_of
+unfolding facet_of declared_of
 facet_stands s t closed d r h =
     let p = facet_taken (head_of t.side closed d) (λ k. declared_of s t.for_model k d) r h in
     let head = head_stands t.side closed d p.0 p.1 in

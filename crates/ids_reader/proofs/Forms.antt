@@ -1,5 +1,5 @@
 -- The specifications that are read are as is asked of specifications.
-use Rattle.std.proofs.Common.{◌≡◌, ◌∙◌, ◌+◌, ◌≤◌, ◌||◌, ◌∷◌, [], ℕ, suc, Bool, true, false, List, Option, Some, None, Result, Ok, Err, length, map, sym, ap, refl, subst, codes, arith}
+use Rattle.std.proofs.Common.{◌≡◌, ◌∙◌, ◌+◌, ◌≤◌, ◌||◌, ◌∷◌, [], ℕ, suc, Bool, true, false, List, Option, Some, None, Result, Ok, Err, length, sym, ap, refl, subst, codes, arith}
 use Rattle.std.specs.Prelude.{IfOk, nat_lt, not}
 use Rattle.std.proofs.lemmas.List.{length-map}
 use Rattle.ifc_base.specs.declared.memory.Refusal.{Refusal}
@@ -17,9 +17,9 @@ use Rattle.ids_reader.specs.declared.tables.Object.TheVariants as object
 use Rattle.ids_reader.specs.Conditions.{fits}
 use Rattle.ids_reader.specs.Documents.{document_form, document_of, ids_reading, value_reading}
 use Rattle.ids_reader.specs.Members.{has_only, is_of, items_at}
-use Rattle.ids_reader.specs.Reads.{Answers, Read, refuse_if, Placed, placed, ◌>>>◌}
+use Rattle.ids_reader.specs.Reads.{Answers, refuse_if, Placed, placed, ◌>>>◌}
 use Rattle.ids_reader.specs.Sides.{facets_from, alone}
-use Rattle.ids_reader.specs.Specifications.{is_for, has_many_facets, in_applicability, in_requirements, limited, occurs_from, occurs_of, stated_by, stated_from, specification_of, specifications_from}
+use Rattle.ids_reader.specs.Specifications.{is_for, in_applicability, in_requirements, limited, occurs_from, occurs_of, stated_by, stated_from, specification_of, specifications_from}
 use Rattle.ids_reader.specs.Standing.{form_of}
 use Rattle.ids_reader.proofs.ReadsLemmas.{after, at_place, passed, placed_is, ok_is, turn_taken}
 use Rattle.ids_reader.proofs.SideForms.{as_many, one_entity, each_as_asked}
@@ -66,7 +66,7 @@ IsNumbered number q = (q.number ≡ number) × IsSpecification q
 
 module _ (s : Schema) where
   stated_is : (number : ℕ) (for_model : Bool) (a d : Data) (q : Specification) → stated_by s number for_model a d ≡ Ok q → IsNumbered number q
-  unfolding stated_by, alone
+  unfolding stated_by alone
   stated_is number for_model a d q h =
       let facets = items_at (codes "facets") a in
       let asked = items_at (codes "requirements") d in

@@ -1,5 +1,5 @@
 -- The names of a map's entries and the items of a list, beside what they stand for.
-use Rattle.std.proofs.Common.{◌≡◌, ◌∙◌, ◌&&◌, ◌||◌, ap₂, Bool, true, false, List, [], ◌∷◌, map, Option, Some, None, option_map, string_bytes, ap, sym, refl, ℕ, ◌+◌, ◌<◌, get_or, drop, length, zero, suc}
+use Rattle.std.proofs.Common.{◌≡◌, ◌∙◌, ◌&&◌, ◌||◌, Bool, true, List, [], ◌∷◌, map, Some, option_map, string_bytes, ap, sym, refl, ℕ, ◌+◌, ◌<◌, get_or, drop, length, zero, suc}
 use Rattle.std.specs.List.{list_all, list_any}
 use Rattle.std.specs.Map.{keys_of}
 use Rattle.std.specs.Str.{bytes_eq}
@@ -7,7 +7,7 @@ use Rattle.std.proofs.lemmas.List.Folds.{list_all-map}
 use Rattle.ids_reader.specs.declared.tables.Member.{Member}
 use Rattle.std.specs.Option.{option_map_or}
 use Rattle.std.proofs.lemmas.List.{at_drop_more, length-map}
-use Rattle.serde_json.specs.Data.{Data, Items, Members}
+use Rattle.serde_json.specs.Data.{Data, Members}
 use Rattle.serde_json.specs.Find.{as_object, as_array}
 use Rattle.serde_json.specs.View.{view, items_view, members_view}
 use Rattle.serde_json.specs.declared.value.Value.{Value}

@@ -1,7 +1,7 @@
 -- Reading one thing after another: with what was read before, and taken apart again.
 use Rattle.std.proofs.Common.{◌≡◌, ◌++◌, ◌∷◌, [], ℕ, Bool, true, false, not, List, Ok, Err, sym, ap, refl, append_assoc}
 use Rattle.ids_reader.specs.declared.fault.IdsCause.{IdsCause}
-use Rattle.ids_reader.specs.Reads.{Read, ◌>>=◌, refuse_if, Placed, placed, ◌>>>◌}
+use Rattle.ids_reader.specs.Reads.{Read, refuse_if, Placed, placed, ◌>>>◌}
 
 -- ---- what was read before, and then these
 

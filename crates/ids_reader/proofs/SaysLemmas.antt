@@ -1,13 +1,12 @@
 -- What was read, beside what the bytes say.
-use Rattle.std.proofs.Common.{◌≡◌, ◌∙◌, ℕ, List, Result, Ok, Err, sym, refl}
+use Rattle.std.proofs.Common.{◌≡◌, ◌∙◌, ℕ, List, Result, Ok, Err, sym}
 use Rattle.std.specs.Prelude.{IfOk}
 use Rattle.ifc_base.specs.declared.memory.Refusal.{Refusal}
 use Rattle.ifc_base.specs.declared.memory.Refusal.TheVariants.{Fault, Memory}
-use Rattle.serde_json.specs.Data.{Data}
 use Rattle.schema_table.specs.Schema.{Schema}
 use Rattle.audit_model.specs.declared.specification.Specification.{Specification}
 use Rattle.ids_reader.specs.declared.fault.IdsFault.{IdsFault}
-use Rattle.ids_reader.specs.Reads.{Answers, Placed, ◌>>>◌}
+use Rattle.ids_reader.specs.Reads.{Answers}
 use Rattle.ids_reader.specs.Documents.{Says, document_of, ids_reading, value_reading}
 use Rattle.ids_reader.proofs.ReadsLemmas.{after}
 

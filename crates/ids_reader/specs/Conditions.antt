@@ -1,6 +1,6 @@
 -- Objects within objects: conditions, restrictions, the entity of a partOf facet, an applicability. Each is looked at for members that
 -- its table hasn't, for members that are missing or of another kind, and for too many texts of a restriction.
-use Rattle.std.specs.Prelude.{ℕ, ◌+◌, ◌&&◌, Bool, true, false, not, List, [], ◌∷◌, length, Option, Some, None, codes, is_some, nat_lt, unwrap_or}
+use Rattle.std.specs.Prelude.{ℕ, ◌+◌, ◌&&◌, Bool, true, false, not, List, length, Option, Some, None, codes, nat_lt}
 use Rattle.std.specs.List.{list_all}
 use Rattle.std.specs.Option.{option_map_or}
 use Rattle.serde_json.specs.Data.{Data}
@@ -10,7 +10,7 @@ use Rattle.ids_reader.specs.declared.tables.Kind.TheVariants as kind
 use Rattle.ids_reader.specs.declared.tables.Object.{Object}
 use Rattle.ids_reader.specs.declared.tables.Object.TheVariants as object
 use Rattle.ids_reader.specs.Tables.{Row, table}
-use Rattle.ids_reader.specs.Members.{has_only, stands, is_of, is_text, plain_fits, items_at}
+use Rattle.ids_reader.specs.Members.{has_only, is_of, is_text, plain_fits, items_at}
 
 -- What stands at the member passes, if anything does.
 abbrev pub at_member : (Data → Bool) → List ℕ → Data → Bool

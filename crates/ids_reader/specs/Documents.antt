@@ -1,5 +1,5 @@
 -- What a document of specifications says, or its first fault with its place; and what bytes say as one.
-use Rattle.std.specs.Prelude.{◌≡◌, ℕ, List, [], ◌∷◌, length, Option, Some, None, Ok, Err, codes, nat_lt, if◌then◌else◌, not}
+use Rattle.std.specs.Prelude.{◌≡◌, ℕ, List, length, Option, Some, None, Ok, Err, codes, nat_lt, if◌then◌else◌, not}
 use Rattle.std.specs.Str.{is_utf8}
 use Rattle.serde_json.specs.Data.{Data}
 use Rattle.serde_json.specs.Read.{read}

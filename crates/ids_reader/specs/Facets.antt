@@ -1,5 +1,5 @@
 -- What a facet says, once its form is known (IDS 1.0, facets).
-use Rattle.std.specs.Prelude.{ℕ, Bool, true, false, List, [], ◌∷◌, map, Option, Some, None, Result, Ok, Err, codes, option_map, option_and_then, unwrap_or, is_none}
+use Rattle.std.specs.Prelude.{ℕ, Bool, false, List, map, Option, None, Ok, codes, option_map, option_and_then, unwrap_or, is_none}
 use Rattle.std.specs.Char.{to_ascii_uppercase}
 use Rattle.std.specs.Option.{option_map_or}
 use Rattle.std.specs.Str.{chars}

@@ -1,5 +1,5 @@
 -- The facets of one side of a specification, each at its place.
-use Rattle.std.specs.Prelude.{ℕ, ◌+◌, ◌&&◌, ◌||◌, Bool, true, false, List, [], ◌∷◌, map, Result, Ok, Err}
+use Rattle.std.specs.Prelude.{ℕ, ◌+◌, ◌&&◌, ◌||◌, Bool, true, false, List, [], ◌∷◌, map, Ok}
 use Rattle.serde_json.specs.Data.{Data}
 use Rattle.schema_table.specs.Schema.{Schema}
 use Rattle.audit_model.specs.declared.facet.Facet.{Facet}

@@ -1,5 +1,5 @@
 -- What a specification says, or its first fault (IDS 1.0, specification).
-use Rattle.std.specs.Prelude.{ℕ, ◌+◌, ◌||◌, Bool, true, false, List, [], ◌∷◌, length, Option, Some, None, Ok, Err, codes, encode_utf8_all, nat_lt, if◌then◌else◌}
+use Rattle.std.specs.Prelude.{ℕ, ◌+◌, ◌||◌, Bool, false, List, [], ◌∷◌, length, Option, Some, None, Ok, Err, codes, encode_utf8_all, nat_lt, if◌then◌else◌}
 use Rattle.std.specs.List.{list_any}
 use Rattle.std.specs.Option.{option_map_or}
 use Rattle.std.specs.Str.{bytes_eq}
@@ -14,7 +14,7 @@ use Rattle.ids_reader.specs.declared.standing.Setting.{Setting}
 use Rattle.ids_reader.specs.declared.standing.Side.TheVariants as side
 use Rattle.ids_reader.specs.declared.tables.Object.TheVariants as object
 use Rattle.ids_reader.specs.Members.{text_at, items_at}
-use Rattle.ids_reader.specs.Reads.{Read, ◌>>=◌, refuse_if, Placed, placed, ◌>>>◌}
+use Rattle.ids_reader.specs.Reads.{Read, refuse_if, Placed, placed, ◌>>>◌}
 use Rattle.ids_reader.specs.Sides.{facets_from, alone}
 use Rattle.ids_reader.specs.Standing.{form_of}
 

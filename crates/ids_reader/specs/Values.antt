@@ -1,6 +1,6 @@
 -- What conditions and restrictions say, once their form is known. Of another value these words say something too: a text that isn't there
 -- is empty, a condition that isn't there is refused for its form.
-use Rattle.std.specs.Prelude.{◌≡◌, ℕ, List, [], ◌∷◌, map, Option, Some, None, Result, Ok, Err, codes, option_map, option_and_then, unwrap_or}
+use Rattle.std.specs.Prelude.{ℕ, List, [], map, Option, Some, None, Ok, Err, codes, option_map, unwrap_or}
 use Rattle.std.specs.Str.{chars}
 use Rattle.serde_json.specs.Data.{Data}
 use Rattle.serde_json.specs.Find.{get, as_str}

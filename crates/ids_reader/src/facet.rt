@@ -76,10 +76,7 @@ fn property_of(alloc: Global, value: &Value) -> Result<PropertyFacet, Refusal<Id
 }
 
 #[tactic(auto, unfolding(crate::specs::Facets::classification_of))]
-fn classification_of(
-    alloc: Global,
-    value: &Value,
-) -> Result<ClassificationFacet, Refusal<IdsCause>>
+fn classification_of(alloc: Global, value: &Value) -> Result<ClassificationFacet, Refusal<IdsCause>>
     ensures { Answers (classification_of (view value.now)) result }
 {
     let system = restriction_at(alloc, "system", value)?;

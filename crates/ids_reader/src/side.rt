@@ -142,8 +142,5 @@ fn facets_in(alloc: Global, requirements: Vec<Requirement>) -> Result<Vec<Facet>
 pub(crate) fn alone(alloc: Global, requirements: Requirements) -> Result<Facets, Memory>
     ensures { IfOk result (λ facets. facets ≡ spec.alone requirements) }
 {
-    Ok(Listed::from_vec(facets_in(
-        alloc,
-        requirements.into_vec(),
-    )?))
+    Ok(Listed::from_vec(facets_in(alloc, requirements.into_vec())?))
 }

@@ -184,7 +184,13 @@ fn required_of(
         side: Side::Requirements,
         for_model,
     };
-    facets_of(alloc, schema, setting, first, items_at("requirements", value))
+    facets_of(
+        alloc,
+        schema,
+        setting,
+        first,
+        items_at("requirements", value),
+    )
 }
 
 /// The place behind the applicability's facets.

@@ -89,10 +89,7 @@ fn built(alloc: Global, value: &Value) -> Result<Restriction, Refusal<IdsCause>>
 
 /// What a condition asks.
 #[tactic(auto, unfolding(crate::specs::Values::restriction_of))]
-pub(crate) fn restriction_of(
-    alloc: Global,
-    value: &Value,
-) -> Result<Restriction, Refusal<IdsCause>>
+pub(crate) fn restriction_of(alloc: Global, value: &Value) -> Result<Restriction, Refusal<IdsCause>>
     ensures { Answers (restriction_of (view value.now)) result }
 {
     match value.get("restriction") {

@@ -1,4 +1,4 @@
-use Rattle.std.proofs.Common.{◌≡◌, ◌∙◌, ◌+◌, ◌++◌, ◌∷◌, [], false, map, drop, Ok, Err, ap, sym, arith, rules, tests}
+use Rattle.std.proofs.Common.{◌≡◌, ◌∙◌, ◌+◌, ◌++◌, ◌∷◌, [], map, drop, Ok, Err, ap, sym, arith, rules, tests}
 use Rattle.serde_json.specs.View.{view}
 use Rattle.ids_reader.specs.Sides.{facet_at, facets_from, closed_after}
 use Rattle.ids_reader.proofs.ReadsLemmas.{behind}

@@ -1,6 +1,6 @@
 -- What the loops and the calls of an evaluation read.
 use Rattle.std.proofs.Common.{◌≡◌, ◌<◌, ◌+◌, ℕ, List, [], ◌∷◌, ◌++◌, Bool, true, false, ◌&&◌, map, length, get_or, take, refl, sym, ap, subst, ◌∙◌}
-use Rattle.std.specs.List.{list_all, flat_map}
+use Rattle.std.specs.List.{list_all}
 use Rattle.std.proofs.lemmas.List.{take_more, map-append, append-nil}
 use Rattle.std.proofs.lemmas.List.Folds.{list_all-append}
 use Rattle.ifc_base.specs.declared.value.Instance.{Instance}
@@ -8,26 +8,24 @@ use Rattle.ifc_base.specs.declared.key.Key.{Key}
 use Rattle.ifc_base.specs.declared.key.Key.TheVariants.{Inst}
 use Rattle.schema_table.specs.Schema.{Schema}
 use Rattle.audit_model.specs.declared.facet.EntityFacet.{EntityFacet}
-use Rattle.audit_model.specs.declared.facet.Facet.{Facet}
 use Rattle.audit_model.specs.declared.facet.Facet.TheVariants.{Entity}
-use Rattle.audit_model.specs.declared.specification.Occurs.{Occurs}
 use Rattle.audit_model.specs.declared.specification.Requirement.{Requirement}
 use Rattle.audit_model.specs.declared.specification.Specification.{Specification}
 use Rattle.audit_model.specs.declared.verdict.Pair.{Pair}
 use Rattle.audit_model.specs.declared.verdict.Verdict.{Verdict}
-use Rattle.audit_model.specs.declared.verdict.Verdict.TheVariants.{NotApplicable, Applicable}
+use Rattle.audit_model.specs.declared.verdict.Verdict.TheVariants.{Applicable}
 use Rattle.audit_model.specs.declared.verdict.Weighed.{Weighed}
 use Rattle.audit_model.specs.Facets.{holds_alike}
 use Rattle.audit_model.specs.Ascending.{ascending_keys}
 use Rattle.audit_model.specs.Keys.{Sight, sight}
 use Rattle.audit_model.specs.Needs.{need}
-use Rattle.audit_model.specs.Reading.{Reading, told, stand, visit, ◌>>=◌}
-use Rattle.audit_model.specs.Verdicts.{weigh, is_met, requirement_met, numbers_of_false, asked, asked_by, assess, assess_when, assess_pair, verdict}
+use Rattle.audit_model.specs.Reading.{Reading, told, visit}
+use Rattle.audit_model.specs.Verdicts.{weigh, requirement_met, numbers_of_false, asked, assess, assess_when, assess_pair, verdict}
 use Rattle.closure_walk.specs.Laws.{SameKeysSameNeed}
 use Rattle.closure_walk.specs.Walking.{SameKeys}
 use Rattle.facet_paths.specs.Held.{entity_weighed}
 use Rattle.facet_paths.specs.Reads.{Reads}
-use Rattle.facet_paths.proofs.Joins.{same_join, reads_then}
+use Rattle.facet_paths.proofs.Joins.{same_join}
 use Rattle.facet_paths.proofs.Same.{same_is, told_read}
 
 -- Facets.

@@ -93,8 +93,10 @@ pub fn all_hold<L: Look>(
     facets: &[Facet],
     reads: &mut Keys,
 ) -> Result<bool, Memory>
-    ensures holds { IfOk result (λ b. b ≡ list_all (λ w. w.holds) ((visit (λ f. weigh schema.now f elem) facets.now).answer (L.seen look.now))) }
-    ensures reads { OnOk result (SameKeys reads.new (reads.old ++ (visit (λ f. weigh schema.now f elem) facets.now).keys (L.seen look.now))) }
+    ensures holds { IfOk result (λ b. b ≡ list_all (λ w. w.holds)
+        ((visit (λ f. weigh schema.now f elem) facets.now).answer (L.seen look.now))) }
+    ensures reads { OnOk result (SameKeys reads.new (reads.old ++
+        (visit (λ f. weigh schema.now f elem) facets.now).keys (L.seen look.now))) }
 {
     let mut all = true;
     for facet in facets {

@@ -45,8 +45,10 @@ fn unmet<L: Look>(
     reads: &mut Keys,
 ) -> Result<Numbers, Memory>
     requires { length requirements.now ≤ 64 }
-    ensures numbers { IfOk result (λ ns. ns ≡ numbers_of_false 1 ((visit (requirement_met schema.now elem) requirements.now).answer (L.seen look.now))) }
-    ensures reads { OnOk result (SameKeys reads.new (reads.old ++ (visit (requirement_met schema.now elem) requirements.now).keys (L.seen look.now))) }
+    ensures numbers { IfOk result (λ ns. ns ≡ numbers_of_false 1
+        ((visit (requirement_met schema.now elem) requirements.now).answer (L.seen look.now))) }
+    ensures reads { OnOk result (SameKeys reads.new (reads.old ++
+        (visit (requirement_met schema.now elem) requirements.now).keys (L.seen look.now))) }
 {
     let mut numbers = Numbers::new(alloc);
     for at in 0..requirements.len() {
@@ -69,7 +71,8 @@ pub fn verdict_where_applicable<L: Look>(
     reads: &mut Keys,
 ) -> Result<Verdict, Memory>
     requires { length requirements.now ≤ 64 }
-    ensures { IfOk result (λ d. Reads (asked_by schema.now occurs requirements.now elem) (L.seen look.now) d reads.old reads.new) }
+    ensures { IfOk result (λ d. Reads (asked_by schema.now occurs requirements.now elem) (L.seen look.now) d
+        reads.old reads.new) }
 {
     match occurs {
         Occurs::Prohibited => Ok(Verdict::Applicable(Numbers::new(alloc))),

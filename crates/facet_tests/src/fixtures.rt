@@ -15,7 +15,8 @@ use std::test::Fail;
 /// type, `Things` with an attribute for each kind of value, `System` and `Branch` as subtypes of what classifies.
 const SCHEMA: &str = "SCHEMA CUT;
 TYPE X = STRING; END_TYPE;
-ENTITY IfcPerson; Identification, FamilyName, GivenName, MiddleNames, PrefixTitles, SuffixTitles, Roles, Addresses : X; END_ENTITY;
+ENTITY IfcPerson;
+  Identification, FamilyName, GivenName, MiddleNames, PrefixTitles, SuffixTitles, Roles, Addresses : X; END_ENTITY;
 ENTITY IfcOrganization; Identification, Name, Description, Roles, Addresses : X; END_ENTITY;
 ENTITY IfcPersonAndOrganization; ThePerson, TheOrganization, Roles : X; END_ENTITY;
 ENTITY IfcApplication; ApplicationDeveloper, Version, ApplicationFullName, ApplicationIdentifier : X; END_ENTITY;

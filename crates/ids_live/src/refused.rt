@@ -5,8 +5,8 @@ ghost use Rattle.ids_live.specs.Lines.{instance_word, schema_words, model_words,
 
 use audit_core::ModelFault;
 use express_decl::{DeclCause, DeclFault};
-use ifc_base::{Bytes, Memory, Name};
 use ids_reader::{IdsCause, IdsFault};
+use ifc_base::{Bytes, Memory, Name};
 use narrow_forms::LineFault;
 use p21_read::{P21Cause, P21Fault};
 use report_text::{push_decimal, push_text};

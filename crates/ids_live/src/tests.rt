@@ -113,9 +113,19 @@ fn expect_stale<R: Abort>(
 ) -> Result<(), Fail> {
     let model = model(alloc, RELATED_WALLS)?;
     let script = format!(in alloc; "take\nopen\nadd #20={relation}\ncommit\ngive\nsync\n")?;
-    let wanted = format!(in alloc; "1 take 1 #10 0\n1 open 0\n1 commit 1\n1 give stale refs #10 {role} 1\nreport 1\n\
-         spec 1 fail applicable 2 failed 2\nfail #10 {failed}\nfail #11 1 2 3 4\nend fail\n")?;
-    let mut shelf = shelf(alloc, RELATIONS, RELATED, model.as_str(), script.as_str(), "", 0)?;
+    let wanted = format!(in alloc;
+        "1 take 1 #10 0\n1 open 0\n1 commit 1\n1 give stale refs #10 {role} 1\nreport 1\n\
+         spec 1 fail applicable 2 failed 2\nfail #10 {failed}\nfail #11 1 2 3 4\nend fail\n"
+    )?;
+    let mut shelf = shelf(
+        alloc,
+        RELATIONS,
+        RELATED,
+        model.as_str(),
+        script.as_str(),
+        "",
+        0,
+    )?;
     let mut sink = MemSink::new(alloc, 1000, 1000, Numbers::new(alloc))?;
     let words = words(alloc, "replay")?;
     let ended = run_serial(alloc, &words, &mut shelf, &mut sink);

@@ -1,5 +1,5 @@
 -- A row more, and a row less.
-use Rattle.std.proofs.Common.{◌≡◌, ℕ, suc, zero, ◌+◌, ◌<◌, ◌≤◌, Bool, true, false, cond, not, ◌&&◌, ◌||◌, if◌then◌else◌, List, [], ◌∷◌, ◌++◌, length, take, drop, fold, get_or, map, filter, Option, Some, None, refl, arith, ap, sym, subst, ◌∙◌, add-one}
+use Rattle.std.proofs.Common.{◌≡◌, ℕ, suc, zero, ◌+◌, ◌<◌, ◌≤◌, Bool, true, false, cond, not, ◌&&◌, ◌||◌, ◌==◌, if◌then◌else◌, List, [], ◌∷◌, ◌++◌, length, take, drop, fold, get_or, map, filter, Option, Some, None, refl, arith, ap, sym, subst, ◌∙◌, add-one}
 use Rattle.std.specs.Prelude.{insert}
 use Rattle.std.specs.List.{prefix_len, list_any, remove}
 use Rattle.std.specs.Option.{option_map}
@@ -283,3 +283,7 @@ pub new_more : (come : List Pair) (i : ℕ) (p : Pair) → i < length come → p
 new_more come i p l e rows next a s n =
     let first : AreNew (pairs_of rows) (p ∷ drop (i + 1) come) = subst (AreNew (pairs_of rows)) (ahead come i p l e) n in
     rw s (new_next p (drop (i + 1) come) rows a (not_listed p rows first.0) first)
+
+pub some_more : (n : ℕ) → (n == 0) ≡ false → 0 < n
+some_more zero e = absurd (true≢false e)
+some_more (suc n) e = omega arith

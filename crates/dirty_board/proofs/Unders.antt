@@ -1,5 +1,5 @@
 -- The index of keys, while rows and index change.
-use Rattle.std.proofs.Common.{◌≡◌, ℕ, suc, ◌+◌, ◌<◌, Bool, true, false, ◌||◌, if◌then◌else◌, List, [], ◌∷◌, length, take, get_or, map, Option, Some, None, refl, ap, sym, subst, ◌∙◌}
+use Rattle.std.proofs.Common.{◌≡◌, ℕ, suc, ◌+◌, ◌<◌, Bool, true, false, ◌||◌, if◌then◌else◌, cond, List, [], ◌∷◌, ◌++◌, length, take, fold, filter, get_or, map, Option, Some, None, refl, ap, sym, subst, ◌∙◌}
 use Rattle.std.specs.Prelude.{Vec}
 use Rattle.std.specs.List.{list_any}
 use Rattle.std.specs.Option.{option_map}
@@ -10,7 +10,8 @@ use Rattle.audit_model.specs.declared.verdict.Pair.{Pair}
 use Rattle.audit_model.specs.Pairs.{same_pair}
 use Rattle.dirty_board.specs.declared.rows.Row.{Row}
 use Rattle.dirty_board.specs.declared.rows.Kept.{Kept}
-use Rattle.dirty_board.specs.Rows.{with_row, keeping, dropping, new_row, needs_key, without_key, dropped_among, unsettled_by, marked, row_place, AreAscending}
+use Rattle.dirty_board.specs.Rooms.{with_pair}
+use Rattle.dirty_board.specs.Rows.{below, with_row, keeping, dropping, new_row, needs_key, without_key, dropped_among, unsettled_by, marked, row_place, AreAscending}
 use Rattle.dirty_board.specs.Needing.{AreUnder, has_pair, is_among}
 use Rattle.dirty_board.proofs.Order.{none_after, same_is}
 use Rattle.dirty_board.proofs.Tests.{any_more}
@@ -145,3 +146,20 @@ under_without {A} index next key stay (r ∷ rs) h =
 pub new_under : {A : Type 0} (index : List (Key × Vec Pair A)) (ps : List Pair) → AreUnder index (map new_row ps)
 new_under index [] = tt
 new_under index (p ∷ ps) = ((λ k n. absurd (true≢false (sym n))), new_under index ps)
+
+-- rows that go, and rows that come
+
+pub under_filter : {A : Type 0} (index : List (Key × Vec Pair A)) (t : Row → Bool) (rows : List Row) → AreUnder index rows → AreUnder index (filter t rows)
+under_filter index t [] h = tt
+under_filter {A} index t (r ∷ rs) h =
+    elim (t r) as (λ b. AreUnder index (cond b (r ∷ filter t rs) (filter t rs))) [ true ↦ (h.0, under_filter index t rs h.1) | false ↦ under_filter index t rs h.1 ]
+
+under_append : {A : Type 0} (index : List (Key × Vec Pair A)) (rows more : List Row) → AreUnder index rows → AreUnder index more → AreUnder index (rows ++ more)
+under_append index [] more h k = k
+under_append index (r ∷ rs) more h k = (h.0, under_append index rs more h.1 k)
+
+pub under_added : {A : Type 0} (index : List (Key × Vec Pair A)) (come : List Pair) (rows : List Row) → AreUnder index rows → AreUnder index (fold with_pair rows come)
+under_added index [] rows h = h
+under_added index (p ∷ ps) rows h =
+    under_added index ps (with_pair rows p)
+    (under_append index (filter (λ (r : Row). below r.pair p) rows) (new_row p ∷ filter (λ (r : Row). below p r.pair) rows) (under_filter index (λ (r : Row). below r.pair p) rows h) ((λ k n. absurd (true≢false (sym n))), under_filter index (λ (r : Row). below p r.pair) rows h))

@@ -217,11 +217,15 @@ impl Table {
         ensures kept { result ≡ kept_in (row_at pair self.old) }
         ensures ascending { AreAscending self.old }
     {
-        let place = place_of(&self.rows, pair)?;
-        let row = self.rows.remove(place);
-        self.unsettled.remove(place);
-        self.claimable.remove(place);
-        row.kept
+        match place_of(&self.rows, pair) {
+            None => None,
+            Some(place) => {
+                let row = self.rows.remove(place);
+                self.unsettled.remove(place);
+                self.claimable.remove(place);
+                row.kept
+            }
+        }
     }
 
     /// How many rows there are. `O(1)`.

@@ -73,6 +73,7 @@ pub moved_insert : (flags blocks next : List Bool) (place : ℕ) → AreBlocks f
 moved_insert flags blocks next place a le grown here = record { before = λ i f l. first i f (omega (arith, l)); edges = edge } where
   first : (i : ℕ) → get_or (insert flags place true) i false ≡ true → i < place → get_or next (i / 256) false ≡ true
   first i f l = grown (i / 256) (a.shown i (sym (get_or-insert_below flags place true false i l le) ∙ f))
+
   above : (k : ℕ) → place ≤ k → get_or (insert flags place true) (k + 1) false ≡ true → is_near (insert flags place true) next ((k + 1) / 256) ≡ true
   above k l f =
       let was : get_or next (k / 256) false ≡ true = grown (k / 256) (a.shown k (sym (get_or-insert_above flags place true false k l le) ∙ f)) in
@@ -84,6 +85,7 @@ moved_insert flags blocks next place a le grown here = record { before = λ i f 
             let same : k / 256 ≡ (k + 1) / 256 = omega (arith, more) in
             near_block (insert flags place true) next ((k + 1) / 256) (subst (λ (b : ℕ). get_or next b false ≡ true) same was)
       ]
+
   edge : (i : ℕ) → get_or (insert flags place true) i false ≡ true → is_near (insert flags place true) next (i / 256) ≡ true
   edge i f =
       elim (cases_lt i place) [
@@ -103,6 +105,7 @@ pub moved_remove : (flags blocks : List Bool) (place : ℕ) → AreBlocks flags 
 moved_remove flags blocks place a lt = record { before = λ i f l. first i f (omega (arith, l)); edges = edge } where
   first : (i : ℕ) → get_or (remove flags place) i false ≡ true → i < place → get_or blocks (i / 256) false ≡ true
   first i f l = a.shown i (sym (get_or-remove_below flags place false i l lt) ∙ f)
+
   edge : (i : ℕ) → get_or (remove flags place) i false ≡ true → is_near (remove flags place) blocks (i / 256) ≡ true
   edge i f =
       elim (cases_lt i place) [

@@ -261,6 +261,7 @@ among_without gone q (r ∷ rs) e =
       later : (a b : Bool) → b ≡ true → (a || b) ≡ true
       later true b k = refl
       later false b k = k
+
       rest : (a b c : Bool) → (b ≡ true → c ≡ true) → (a || b) ≡ true → (a || c) ≡ true
       rest true b c k h = refl
       rest false b c k h = k h

@@ -133,13 +133,13 @@ pub under_without : {A : Type 0} (index next : List (Key × Vec Pair A)) (key : 
 under_without index next key stay [] h = tt
 under_without {A} index next key stay (r ∷ rs) h =
     let one : (k : Key) → needs_key k (without_key key r) ≡ true → has_pair next k (without_key key r).pair ≡ true =
-      λ k n.
-        let F : Bool → Type 0 = λ b. key_eq key k ≡ b → has_pair next k r.pair ≡ true in
-        let at : F (key_eq key k) = elim (key_eq key k) as F [
-          | true ↦ λ e. absurd (true≢false (sym n ∙ subst (λ (j : Key). needs_key j (without_key key r) ≡ false) ((key_eq-Decides key k).0 e) (without_itself key r)))
-          | false ↦ λ e. stay k r.pair e (h.0 k (without_needs key r k n))
-        ] in
-        subst (λ (q : Pair). has_pair next k q ≡ true) (sym (without_pair key r)) (at refl) in
+    λ k n.
+    let F : Bool → Type 0 = λ b. key_eq key k ≡ b → has_pair next k r.pair ≡ true in
+    let at : F (key_eq key k) = elim (key_eq key k) as F [
+      | true ↦ λ e. absurd (true≢false (sym n ∙ subst (λ (j : Key). needs_key j (without_key key r) ≡ false) ((key_eq-Decides key k).0 e) (without_itself key r)))
+      | false ↦ λ e. stay k r.pair e (h.0 k (without_needs key r k n))
+    ] in
+    subst (λ (q : Pair). has_pair next k q ≡ true) (sym (without_pair key r)) (at refl) in
     (one, under_without index next key stay rs h.1)
 
 -- new rows need nothing

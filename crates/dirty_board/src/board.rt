@@ -26,7 +26,7 @@ impl Model for Board {
     ghost use Rattle.std.specs.Prelude.{List};
     ghost use Rattle.dirty_board.specs.declared.rows.Row.{Row};
     ghost use Rattle.audit_model.specs.Laws.{ArePairsAscending};
-ghost use Rattle.dirty_board.specs.Needing.{AreUnder};
+    ghost use Rattle.dirty_board.specs.Needing.{AreUnder};
 
     ghost Value = { List Row };
 

@@ -65,7 +65,11 @@ fn blocks_of(count: usize) -> usize
     ensures least { 256 * result < count + 256 }
 {
     let whole = count / 256;
-    if whole * 256 == count { whole } else { whole + 1 }
+    if whole * 256 == count {
+        whole
+    } else {
+        whole + 1
+    }
 }
 
 /// So many flags, all set.

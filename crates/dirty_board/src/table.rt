@@ -251,6 +251,11 @@ impl Table {
         move_within(&mut self.rows, rows);
         self.unsettled.move_into(unsettled);
         self.claimable.move_into(claimable);
-        add_rows(&mut self.rows, &mut self.unsettled, &mut self.claimable, come);
+        add_rows(
+            &mut self.rows,
+            &mut self.unsettled,
+            &mut self.claimable,
+            come,
+        );
     }
 }

@@ -8,3 +8,5 @@ pub mod Lookups
 pub mod TallyLaws
 pub mod Blocks
 pub mod MoreLess
+pub mod Failings
+pub mod Tallied

@@ -180,3 +180,13 @@ pub ascending_with : (p : Pair) (f : Row → Row) → ((r : Row) → (f r).pair 
 ascending_with p f k [] a = tt
 ascending_with p f k (r ∷ rs) a =
     elim (same_pair p r.pair) as (λ b. AreAscending (if b then f r ∷ rs else r ∷ with_row p f rs)) [ true ↦ (rw (k r) a.0, a.1) | false ↦ (after_with r.pair p f k rs a.0, ascending_with p f k rs a.1) ]
+
+-- a row behind p is of a pair that comes after it
+pub after_place : (p q : Pair) (rs : List Row) (j : ℕ) → AreAfter p rs → row_place q rs ≡ Some j → below p q ≡ true
+after_place p q [] j a e = absurd (cc)
+after_place p q (r ∷ rs) j a e =
+    let F : Bool → Type 0 = λ b. same_pair q r.pair ≡ b → (if b then Some 0 else option_map (λ n. suc n) (row_place q rs)) ≡ Some j → below p q ≡ true in
+    let G : Option ℕ → Type 0 = λ o. row_place q rs ≡ o → option_map (λ n. suc n) o ≡ Some j → below p q ≡ true in
+    let rest : G (row_place q rs) = elim (row_place q rs) as G [ None ↦ λ h t. absurd (cc) | Some i ↦ λ h t. after_place p q rs i a.1 h ] in
+    let at : F (same_pair q r.pair) = elim (same_pair q r.pair) as F [ true ↦ λ h t. subst (λ (x : Pair). below p x ≡ true) (sym (same_is q r.pair h)) a.0 | false ↦ λ h t. rest refl t ] in
+    at refl e

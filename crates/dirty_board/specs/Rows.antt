@@ -40,6 +40,10 @@ abbrev pub without_row : Pair → List Row → List Row
 without_row p [] = []
 without_row p (r ∷ rs) = if same_pair p r.pair then rs else r ∷ without_row p rs
 
+-- this is kept, or nothing is
+abbrev pub holding : Option Kept → Row → Row
+holding k r = record { pair = r.pair; kept = k; out = r.out }
+
 -- this is kept
 abbrev pub keeping : Kept → Row → Row
 keeping k r = record { pair = r.pair; kept = Some k; out = r.out }

@@ -5,13 +5,18 @@
 
 mod adding;
 mod board;
+mod failing;
 mod flags;
 mod index;
+mod laws;
 mod moves;
 mod room;
 mod rows;
 mod table;
+mod tallies;
 
 pub use board::Board;
+pub use laws::{tallies_follow, tallies_forget, tallies_rise};
 pub use room::Room;
 pub use rows::{BoxedKept, Kept, Row};
+pub use tallies::{Tallies, applies};

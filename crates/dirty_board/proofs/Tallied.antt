@@ -48,9 +48,9 @@ failing_changed : (occurs : Occurs) (e : ℕ) (k : Option Kept) (vs : List (ℕ 
 failing_changed occurs e k vs =
     filter_map-append (λ (v : ℕ × Verdict). failing_of occurs v.0 v.1) (filter (λ w. nat_lt w.0 e) vs ++ option_to_list (with_elem e k)) (filter (λ w. nat_lt e w.0) vs)
     ∙ ap (λ xs. xs ++ failings occurs (filter (λ w. nat_lt e w.0) vs))
-      (filter_map-append (λ (v : ℕ × Verdict). failing_of occurs v.0 v.1) (filter (λ w. nat_lt w.0 e) vs) (option_to_list (with_elem e k))
-      ∙ ap (λ xs. xs ++ failings occurs (option_to_list (with_elem e k))) (failing_filter (λ n. nat_lt n e) occurs vs)
-      ∙ ap (λ xs. filter (λ (f : Failing). nat_lt f.elem e) (failings occurs vs) ++ xs) (failing_own occurs e k))
+    (filter_map-append (λ (v : ℕ × Verdict). failing_of occurs v.0 v.1) (filter (λ w. nat_lt w.0 e) vs) (option_to_list (with_elem e k))
+    ∙ ap (λ xs. xs ++ failings occurs (option_to_list (with_elem e k))) (failing_filter (λ n. nat_lt n e) occurs vs)
+    ∙ ap (λ xs. filter (λ (f : Failing). nat_lt f.elem e) (failings occurs vs) ++ xs) (failing_own occurs e k))
     ∙ ap (λ xs. (filter (λ (f : Failing). nat_lt f.elem e) (failings occurs vs) ++ option_to_list (failing_by occurs e k)) ++ xs) (failing_filter (λ n. nat_lt e n) occurs vs)
 
 -- Counts.
@@ -77,7 +77,7 @@ count_changed : (e : ℕ) (k : Option Kept) (vs : List (ℕ × Verdict)) → cou
 count_changed e k vs =
     count_append (filter (λ w. nat_lt w.0 e) vs ++ option_to_list (with_elem e k)) (filter (λ w. nat_lt e w.0) vs)
     ∙ ap (λ n. n + count (filter (λ w. nat_lt e w.0) vs))
-      (count_append (filter (λ w. nat_lt w.0 e) vs) (option_to_list (with_elem e k)) ∙ ap (λ n. count (filter (λ w. nat_lt w.0 e) vs) + n) (count_own e k))
+    (count_append (filter (λ w. nat_lt w.0 e) vs) (option_to_list (with_elem e k)) ∙ ap (λ n. count (filter (λ w. nat_lt w.0 e) vs) + n) (count_own e k))
 
 recount : (was now : Bool) (a b n m : ℕ) → n ≡ (a + one_if was) + b → m ≡ (a + one_if now) + b → m ≡ recounted was now n
 recount true true a b n m p q = q ∙ sym p

@@ -5,7 +5,7 @@ use Rattle.ifc_base.specs.declared.memory.Refusal.{Refusal}
 use Rattle.ifc_base.specs.declared.memory.Refusal.TheVariants.{Fault, Memory}
 use Rattle.script_read.specs.declared.bytes.NoForm.{NoForm}
 use Rattle.script_read.specs.Said.{Said, nothing, editor, does, sync, is_editor, is_name}
-use Rattle.script_read.specs.LineForm.{Front, number}
+use Rattle.script_read.specs.LineForm.{Front, number, alone, ◌>>=◌}
 use Rattle.script_read.specs.declared.line.Meaning.{Meaning}
 use Rattle.script_read.specs.declared.line.Meaning.TheVariants as m
 
@@ -29,6 +29,10 @@ capped x = (min x.0 0xFFFF_FFFF, x.1)
 
 unfoldable pub capped_number : List ℕ → Front ℕ
 capped_number t = option_map capped (number t)
+
+-- the number, where nothing stands behind it
+unfoldable pub last_number : List ℕ → Option ℕ
+last_number t = option_map (λ n. min n 0xFFFF_FFFF) (number t >>= alone)
 
 -- the letters of a name at the front behind these, and what is left
 unfoldable pub gathered : List ℕ → List ℕ → List ℕ × List ℕ

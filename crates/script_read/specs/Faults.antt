@@ -94,15 +94,15 @@ fault_at number why = Err (record { line = min number 0xFFFF_FFFF; why = why })
 abbrev pub ended : List Said → Result Script (Fault ScriptCause)
 ended came = if ends_in_sync came then Ok (record { phases = phases_of came }) else fault_at (length came) NoSync
 
-mutual
-  -- line after line, and the fault of the first that has one; lines are numbered from 1
-  unfoldable pub read_lines : List Said → List (List ℕ) → Result Script (Fault ScriptCause)
-  read_lines came [] = ended came
-  read_lines came (text ∷ texts) = read_on came texts (with_line came text)
+-- the script that is read behind a line, or the fault in this line
+abbrev pub read_on : ℕ → Result (List Said) ScriptCause → (List Said → Result Script (Fault ScriptCause)) → Result Script (Fault ScriptCause)
+read_on number (Ok came) f = f came
+read_on number (Err why) f = fault_at number why
 
-  unfoldable pub read_on : List Said → List (List ℕ) → Result (List Said) ScriptCause → Result Script (Fault ScriptCause)
-  read_on came texts (Ok more) = read_lines more texts
-  read_on came texts (Err why) = fault_at (length came + 1) why
+-- line after line, and the fault of the first that has one; lines are numbered from 1
+unfoldable pub read_lines : List Said → List (List ℕ) → Result Script (Fault ScriptCause)
+read_lines came [] = ended came
+read_lines came (text ∷ texts) = read_on (length came + 1) (with_line came text) (λ more. read_lines more texts)
 
 -- What the bytes are read as: the script, or the first fault with its line.
 abbrev pub script_reading : List ℕ → Result Script (Fault ScriptCause)

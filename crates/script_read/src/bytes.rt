@@ -1,6 +1,6 @@
 //! The bytes of a line, from left to right.
 
-ghost use Rattle.std.specs.Prelude.{◌≡◌, ◌∷◌, [], ◌≤◌, tt, MatchOption, IfOk};
+ghost use Rattle.std.specs.Prelude.{◌≡◌, ◌∷◌, [], ◌≤◌, ◌+◌, ◌*◌, min, MatchOption, Some};
 ghost use Rattle.script_read.specs.Bytes as read;
 ghost use Rattle.script_read.specs.Bytes.{Reads, first};
 ghost use Rattle.script_read.specs.LineForm as spec;
@@ -123,7 +123,8 @@ impl<'a> LineBytes<'a> {
     }
 
     /// Takes a number of one or more digits; one past 4,294,967,295 is that.
-    pub(crate) fn number(&mut self) -> Result<u32, Refusal<NoForm>>
+    #[tactic(auto, using(crate::proofs::Numbers::number_laws))]
+    fn number(&mut self) -> Result<u32, Refusal<NoForm>>
         ensures { Reads (λ n. (n, self.new)) result (read.capped_number self.old) }
     {
         match self.peek() {
@@ -132,15 +133,44 @@ impl<'a> LineBytes<'a> {
         }
     }
 
+    /// Takes a number of one or more digits, which is all that is left; one past 4,294,967,295 is that.
+    #[tactic(auto, using(crate::proofs::Numbers::last_laws))]
+    pub(crate) fn last_number(&mut self) -> Result<u32, Refusal<NoForm>>
+        ensures { Reads (λ n. n) result (read.last_number self.old) }
+    {
+        let number = self.number()?;
+        match self.peek() {
+            None => Ok(number),
+            Some(_) => Err(Refusal::Fault(NoForm)),
+        }
+    }
+
+    /// The next byte is a zero.
+    pub(crate) fn begins_with_zero(&self) -> bool
+        ensures { result ≡ word.begins_with 48 self.now }
+    {
+        match self.rest.first() {
+            Some(byte) => *byte == b'0',
+            None => false,
+        }
+    }
+
     /// Takes `#` and the number of an instance, from 1 to 2,147,483,647.
+    #[tactic(auto, using(crate::proofs::Numbers::id_laws))]
     pub(crate) fn id(&mut self) -> Result<InstId, Refusal<NoForm>>
         ensures { Reads (λ id. (id, self.new)) result (spec.id self.old) }
     {
-        if self.next() != Some(b'#') {
+        let Some(sign) = self.next() else {
+            return Err(Refusal::Fault(NoForm));
+        };
+        if sign != b'#' {
             return Err(Refusal::Fault(NoForm));
         }
         let number = self.number()?;
-        InstId::new(number).ok_or(Refusal::Fault(NoForm))
+        match InstId::new(number) {
+            Some(id) => Ok(id),
+            None => Err(Refusal::Fault(NoForm)),
+        }
     }
 
     /// Takes all letters of a name that come next.
@@ -160,13 +190,20 @@ impl<'a> LineBytes<'a> {
     }
 
     /// Takes the name of an attribute.
+    #[tactic(auto, using(crate::proofs::Names::attribute_laws))]
     pub(crate) fn attribute(&mut self, alloc: Global) -> Result<Name, Refusal<NoForm>>
         ensures { Reads (λ name. (name, self.new)) result (spec.attribute self.old) }
     {
-        match self.peek() {
-            Some(byte) if is_name(byte) && !byte.is_ascii_digit() => self.letters(alloc),
-            _ => Err(Refusal::Fault(NoForm)),
+        let Some(byte) = self.peek() else {
+            return Err(Refusal::Fault(NoForm));
+        };
+        if byte.is_ascii_digit() {
+            return Err(Refusal::Fault(NoForm));
         }
+        if !is_name(byte) {
+            return Err(Refusal::Fault(NoForm));
+        }
+        self.letters(alloc)
     }
 
     /// Nothing is left.

@@ -1,6 +1,6 @@
 //! Editors, and what each has between two of its lines.
 
-ghost use Rattle.std.specs.Prelude.{◌≡◌, ◌≤◌, ℕ, SomeIff, IfOk, get_or, ◌-◌};
+ghost use Rattle.std.specs.Prelude.{◌≡◌, ◌≤◌, SomeIff, IfOk, get_or, ◌-◌};
 ghost use Rattle.std.proofs.Math.ListN.{set};
 ghost use Rattle.script_read.specs.Writing as spec;
 
@@ -18,6 +18,8 @@ pub(crate) struct Editor {
 }
 
 impl Model for Editor {
+    ghost use Rattle.std.specs.Prelude.{ℕ, ◌≤◌};
+
     ghost Value = { ℕ };
 
     ghost view = { λ editor. editor.number };
@@ -72,7 +74,7 @@ pub(crate) struct Crew {
 }
 
 impl Model for Crew {
-    ghost use Rattle.std.specs.Prelude.{List, length};
+    ghost use Rattle.std.specs.Prelude.{◌≡◌, List, length};
     ghost use Rattle.script_read.specs.declared.editors.Hands.{Hands};
 
     ghost Value = { List Hands };
@@ -91,11 +93,9 @@ impl Crew {
             draft: None,
             holds: false,
         };
-        let mut hands = Vec::with_capacity(alloc, EDITORS as usize)?;
-        for _ in 0..EDITORS {
-            hands.push_reserved(free);
-        }
-        Ok(Crew { hands })
+        Ok(Crew {
+            hands: Vec::from_array(alloc, [free; 16])?,
+        })
     }
 
     /// What the editor has. `O(1)`.

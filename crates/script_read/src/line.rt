@@ -4,6 +4,8 @@ ghost use Rattle.std.specs.Prelude.{◌≡◌, MatchOption, None, Some, option_m
 ghost use Rattle.std.specs.Str.{is_utf8};
 ghost use Rattle.script_read.specs.Bytes.{Reads, as_code};
 ghost use Rattle.script_read.specs.LineForm as spec;
+ghost use Rattle.script_read.specs.Said as word;
+ghost use Rattle.script_read.specs.Said.{editor};
 
 use crate::bytes::{LineBytes, NoForm};
 use crate::edit::{add_line, remove_line, set_line};
@@ -32,10 +34,14 @@ pub(crate) enum Meaning {
 }
 
 /// Whether the line is UTF-8. `O(length of the line)`.
+#[tactic(auto, using(crate::proofs::Texts::text_laws))]
 fn is_text(line: &[u8]) -> bool
     ensures { result ≡ is_utf8 line.now }
 {
-    str::from_utf8(line).is_ok()
+    match str::from_utf8(line) {
+        Ok(_) => true,
+        Err(_) => false,
+    }
 }
 
 /// What stands behind the word at the front.
@@ -47,34 +53,46 @@ fn behind<'a>(word: &[u8], line: &'a [u8]) -> Option<&'a [u8]>
     line.strip_prefix(word)
 }
 
+/// The lines that follow are of the editor of this number, if there is one.
+fn named(number: u32) -> Meaning
+    ensures { result ≡ as_code (editor number) }
+{
+    match Editor::new(number) {
+        Some(editor) => Meaning::Editor(editor),
+        None => Meaning::Nobody,
+    }
+}
+
 /// What stands behind `editor`.
-#[tactic(auto, unfolding(crate::specs::LineForm::editor_line))]
+#[tactic(auto, using(crate::proofs::Numbers::editor_laws))]
 fn editor_line(text: &[u8]) -> Result<Meaning, Refusal<NoForm>>
     ensures { Reads (λ meaning. meaning) result (option_map as_code (spec.editor_line text.now)) }
 {
     let mut bytes = LineBytes::new(text);
     bytes.pass_blanks()?;
-    let number = bytes.number()?;
-    bytes.end()?;
-    Ok(match Editor::new(number) {
-        Some(editor) => Meaning::Editor(editor),
-        None => Meaning::Nobody,
-    })
+    let number = bytes.last_number()?;
+    Ok(named(number))
 }
 
-/// How many times, without a leading zero.
-#[tactic(auto, unfolding(crate::specs::LineForm::work_line))]
+/// One line may work so many times.
+fn is_work(times: u32) -> bool
+    ensures { result ≡ word.is_work times }
+{
+    times >= 1 && times <= MOST_WORK
+}
+
+/// What stands behind `work`.
+#[tactic(auto, using(crate::proofs::Numbers::work_laws))]
 fn work_line(text: &[u8]) -> Result<Act, Refusal<NoForm>>
     ensures { Reads (λ act. act) result (spec.work_line text.now) }
 {
     let mut bytes = LineBytes::new(text);
     bytes.pass_blanks()?;
-    if bytes.peek() == Some(b'0') {
+    if bytes.begins_with_zero() {
         return Err(Refusal::Fault(NoForm));
     }
-    let times = bytes.number()?;
-    bytes.end()?;
-    if times < 1 || times > MOST_WORK {
+    let times = bytes.last_number()?;
+    if !is_work(times) {
         return Err(Refusal::Fault(NoForm));
     }
     Ok(Act::Work(times))

@@ -1,0 +1,6 @@
+mod CutLemmas
+mod Texts
+mod Numbers
+mod Names
+mod Crews
+mod WritingLaws

@@ -9,7 +9,7 @@ use Rattle.script_read.specs.Said.{is_editor}
 use Rattle.script_read.specs.Standing.{editors}
 
 -- n numbers from s on
-abbrev from : ℕ → ℕ → List ℕ
+abbrev pub from : ℕ → ℕ → List ℕ
 from s zero = []
 from s (suc n) = s ∷ from (suc s) n
 

@@ -4,3 +4,6 @@ mod Numbers
 mod Names
 mod Crews
 mod WritingLaws
+mod LineLaws
+mod ScriptLaws
+mod OrderLaws

@@ -84,7 +84,7 @@ edit_is (Some n) =
       | inr ge ↦ let a : nat_le 10000 n ≡ true = grind (arith, nat_tests) in let b : nat_lt n 10000 ≡ false = grind (arith, nat_tests) in rw (a, b) refl
     ]
 
-cause_is : (came : List Said) (act : Act) → first_cause (causes came (does act)) ≡ act_cause (hands_of (own came)) act
+pub cause_is : (came : List Said) (act : Act) → first_cause (causes came (does act)) ≡ act_cause (hands_of (own came)) act
 cause_is came Begin = either (is_some (draft (own came))) (is_some (draft (own came)) || false) DraftOpen (or_false (is_some (draft (own came))))
 cause_is came (Change e) = edit_is (draft (own came))
 cause_is came Commit = refl
@@ -113,9 +113,9 @@ sync_step_is came =
     elim (tested (standing.somebody_holds came)) [
       | inl is ↦ rw is refl
       | inr none ↦ elim (tested (standing.somebody_drafts came)) [
-          | inl is ↦ rw (none, is) refl
-          | inr nobody ↦ rw (none, nobody) refl
-        ]
+        | inl is ↦ rw (none, is) refl
+        | inr nobody ↦ rw (none, nobody) refl
+      ]
     ]
 
 editor_step_is : (came : List Said) (k : ℕ) → step (writing_of came) (as_code (editor k)) ≡ written (judged came (editor k) (first_cause (causes came (editor k))))
@@ -166,11 +166,11 @@ pub next_is : (came : List Said) (text : List ℕ) (more : List Said) → with_l
 unfolding with_line
 next_is came text more e = judged_by_is came (meaning text) more e
 
-named : (b : Bool) (o : Option ScriptCause) → cond (not b) (Some TooManyActors) o ≡ None → b ≡ true
+pub named : (b : Bool) (o : Option ScriptCause) → cond (not b) (Some TooManyActors) o ≡ None → b ≡ true
 named true o e = refl
 named false o e = absurd cc
 
-editor_kept : (came : List Said) (said : Said) → is_editor (editor_of came) ≡ true → first_cause (causes came said) ≡ None → is_editor (editor_of (said ∷ came)) ≡ true
+pub editor_kept : (came : List Said) (said : Said) → is_editor (editor_of came) ≡ true → first_cause (causes came said) ≡ None → is_editor (editor_of (said ∷ came)) ≡ true
 editor_kept came nothing is e = is
 editor_kept came (editor k) is e = named (is_editor k) None e
 editor_kept came (does act) is e = is
@@ -217,9 +217,9 @@ lines_are (last rest) came is =
 lines_are (before_feed first others) came is =
     ap (λ (r : Result Writing ScriptCause). at_line (number came) r >>= λ next. after_lines (next_number (number came)) next others) (line_is came (without_return first) is)
     ∙ go_on came others (with_line came (without_return first)) (λ more e.
-        let n = next_is came (without_return first) more e in
-        let same = number_next (length came) (length more) (grown came (meaning (without_return first)) more n) in
-        rw same (lines_are others more (editor_next came (meaning (without_return first)) more is n)))
+    let n = next_is came (without_return first) more e in
+    let same = number_next (length came) (length more) (grown came (meaning (without_return first)) more n) in
+    rw same (lines_are others more (editor_next came (meaning (without_return first)) more is n)))
 
 -- what code reads of the bytes is the script, or the fault
 pub reading_is : (bytes : List ℕ) → after_lines 1 fresh (cut bytes) ≡ script_reading bytes

@@ -58,13 +58,13 @@ is_full (Some n) = nat_le most_edits n
 -- whose line it is.
 abbrev pub causes : List Said → Said → List (Bool × ScriptCause)
 causes came said =
-  (names_nobody said, TooManyActors)
-  ∷ ((claims said && holds (own came)) || (syncs said && somebody_holds came), Holding)
-  ∷ (gives said && not (holds (own came)), NotHolding)
-  ∷ ((opens said && is_some (draft (own came))) || (syncs said && somebody_drafts came), DraftOpen)
-  ∷ ((edits said || commits said) && not (is_some (draft (own came))), NoDraft)
-  ∷ (edits said && is_full (draft (own came)), TooManyEdits)
-  ∷ []
+    (names_nobody said, TooManyActors)
+    ∷ ((claims said && holds (own came)) || (syncs said && somebody_holds came), Holding)
+    ∷ (gives said && not (holds (own came)), NotHolding)
+    ∷ ((opens said && is_some (draft (own came))) || (syncs said && somebody_drafts came), DraftOpen)
+    ∷ ((edits said || commits said) && not (is_some (draft (own came))), NoDraft)
+    ∷ (edits said && is_full (draft (own came)), TooManyEdits)
+    ∷ []
 
 -- the first cause that holds
 abbrev pub first_cause : List (Bool × ScriptCause) → Option ScriptCause

@@ -21,14 +21,29 @@ pub struct Script {
     pub phases: Phases,
 }
 
-/// Writes all lines.
+/// The script of all lines.
 fn written(alloc: Global, bytes: &[u8]) -> Result<Script, Refusal<ScriptFault>>
     ensures { Answers (λ script. script) result (spec.after_lines 1 spec.fresh (cut bytes.now)) }
 {
     Writing::new(alloc)?.write_lines(alloc, bytes)
 }
 
-/// Reads a script.
+/// Reads a script: its phases, each with the lines up to a `sync`, each line with its editor.
+///
+/// A line feed ends each line, and a carriage return right before it is dropped; the last line feed may be missing. Words are
+/// separated by blanks and tabs, and a line begins and ends with its words, but that the instance or value of an `add` or `set` line
+/// may have blanks and comments around its tokens. An empty line does nothing. A line is one of
+/// - `editor K`: the following lines, up to the next `editor` or `sync`, are those of editor K, from 1 to 16; at the start and after a
+///   `sync` they are those of editor 1,
+/// - `open`, `commit`, `publish`, `take`, `give`, `sync`,
+/// - `add #n=KEYWORD(parameters);`, an instance (ISO 10303-21), whose semicolon may be missing,
+/// - `set #n Attr value`: the name is one or more ASCII letters, digits and `_`, the first no digit, and the value a parameter of
+///   ISO 10303-21; `remove #n`,
+/// - `work N`, N from 1 to 1,000,000 without a leading zero.
+///
+/// The script, or the first fault: that of the first line that has one, by its first cause in the order of `ScriptCause`, and NoSync
+/// where no line has one; or want of memory, which says nothing of the bytes. A refusal leaves nothing behind. A byte order mark is
+/// the caller's to skip. `O(n)`: each line is read once, but that of an `add` without its semicolon, which is read twice.
 pub fn read_script(alloc: Global, bytes: &[u8]) -> Result<Script, Refusal<ScriptFault>>
     // What is read is spelled so.
     ensures found { IfOk result (λ script. ReadsScript bytes.now script) }

@@ -25,7 +25,7 @@ const TAKEN: [&str; 22] = [
     "open\nadd #1=A('a b;');/* behind */\ncommit\nsync\n",
     "open\nset #0010 Name 'X'\ncommit\nsync\n",
     "open\nset\t\t#2147483647 \t _a1  /* a */ ( $ , 'b c' ) /* d */ \t\ncommit\nsync\n",
-    "open\nset #1 A $ \rcommit\nsync\n",
+    "open\nset #1 A $ \t\r\ncommit\nsync\n",
     "open\nremove   #2147483647\ncommit\nsync",
     "open\ncommit\nopen\ncommit\nsync\n",
     "work\t1\nsync\n",
@@ -34,13 +34,56 @@ const TAKEN: [&str; 22] = [
 
 /// Lines of no form. Each stands behind an `open`, at line 2.
 const BAD: [&str; 51] = [
-    " ", "\t", "Sync", "sync ", " sync", "\tsync", "sync\t", "synch", "open x", "open ", "editor",
-    "editor ", "editor x", "editor -1", "editor +1", "editor 1 ", "editor 1 2", "editor1",
-    "editor 1x", "work", "work ", "work 0", "work 01", "work 1000001", "work 18446744073709551617",
-    "work 1 ", "work x", "remove", "remove 1", "remove #", "remove #0", "remove #2147483648",
-    "remove # 1", "remove #1 ", "remove #1;", "remove#1", "set #1 Name", "set #1 Name ",
-    "set #1 1a $", "set #1 a-b $", "set #1 a$", "set #0 a $", "set #1a $", "set #1 a $ $",
-    "set # 1 a $", "set#1 a $", "add #1=A($", "add #1=A($);;", "add #0=A($);", "add#1=A($);",
+    " ",
+    "\t",
+    "Sync",
+    "sync ",
+    " sync",
+    "\tsync",
+    "sync\t",
+    "synch",
+    "open x",
+    "open ",
+    "editor",
+    "editor ",
+    "editor x",
+    "editor -1",
+    "editor +1",
+    "editor 1 ",
+    "editor 1 2",
+    "editor1",
+    "editor 1x",
+    "work",
+    "work ",
+    "work 0",
+    "work 01",
+    "work 1000001",
+    "work 18446744073709551617",
+    "work 1 ",
+    "work x",
+    "remove",
+    "remove 1",
+    "remove #",
+    "remove #0",
+    "remove #2147483648",
+    "remove # 1",
+    "remove #1 ",
+    "remove #1;",
+    "remove#1",
+    "set #1 Name",
+    "set #1 Name ",
+    "set #1 1a $",
+    "set #1 a-b $",
+    "set #1 a$",
+    "set #0 a $",
+    "set #1a $",
+    "set #1 a $ $",
+    "set # 1 a $",
+    "set#1 a $",
+    "add #1=A($",
+    "add #1=A($);;",
+    "add #0=A($);",
+    "add#1=A($);",
     "undo 1",
 ];
 
@@ -94,7 +137,11 @@ const REFUSED: [(&str, u32, ScriptCause); 49] = [
     ("\r\n\nopen\r\nadd #1=A(#0);\r\n", 4, BadLine),
     ("open\nadd #1=A($)/*\n", 2, BadLine),
     ("open\nadd #1=A('a)\n", 2, BadLine),
-    ("open\nadd #1=A((((((((((((((((($)))))))))))))))));\n", 2, BadLine),
+    (
+        "open\nadd #1=A(((((((((((((((((($))))))))))))))))));\n",
+        2,
+        BadLine,
+    ),
 ];
 
 /// The line and the cause, or none where the script is read.
@@ -109,7 +156,10 @@ fn refused_at(alloc: Global, bytes: &[u8]) -> Result<Option<(u32, ScriptCause)>,
 #[test]
 fn scripts_are_taken(rt: HostRuntime) -> Result<(), Fail> {
     for text in TAKEN {
-        assert!(rt; refused_at(rt.alloc(), text.as_bytes())?.is_none(), "{text}");
+        assert!(rt;
+            refused_at(rt.alloc(), text.as_bytes())?.is_none(),
+            "{text}"
+        );
     }
     Ok(())
 }
@@ -118,7 +168,10 @@ fn scripts_are_taken(rt: HostRuntime) -> Result<(), Fail> {
 #[test]
 fn script_faults(rt: HostRuntime) -> Result<(), Fail> {
     for (text, line, why) in REFUSED {
-        assert!(rt; refused_at(rt.alloc(), text.as_bytes())? == Some((line, why)), "{text}");
+        assert!(rt;
+            refused_at(rt.alloc(), text.as_bytes())? == Some((line, why)),
+            "{text}"
+        );
     }
     Ok(())
 }
@@ -127,10 +180,15 @@ fn script_faults(rt: HostRuntime) -> Result<(), Fail> {
 fn lines_of_no_form(rt: HostRuntime) -> Result<(), Fail> {
     for line in BAD {
         let text = format!(in rt.alloc(); "open\n{line}\n")?;
-        assert!(rt; refused_at(rt.alloc(), text.as_bytes())? == Some((2, BadLine)), "{line}");
+        assert!(rt;
+            refused_at(rt.alloc(), text.as_bytes())? == Some((2, BadLine)),
+            "{line}"
+        );
     }
     // Bytes that aren't UTF-8, within a comment and a string.
-    assert!(rt; refused_at(rt.alloc(), b"open\nadd #1=A($)/*\xff*/;\nsync\n")? == Some((2, BadLine)));
+    assert!(rt;
+        refused_at(rt.alloc(), b"open\nadd #1=A($)/*\xff*/;\nsync\n")? == Some((2, BadLine))
+    );
     assert!(rt; refused_at(rt.alloc(), b"open\nset #1 a '\xc3'\nsync\n")? == Some((2, BadLine)));
     Ok(())
 }
@@ -138,11 +196,16 @@ fn lines_of_no_form(rt: HostRuntime) -> Result<(), Fail> {
 /// A draft of 10,000 edits is taken, and one more edit is refused; another editor's edits and those of an earlier draft don't count.
 #[test]
 fn edits_of_a_draft_are_limited(rt: HostRuntime) -> Result<(), Fail> {
-    let mut text = String::from_str(rt.alloc(), "editor 2\nopen\nremove #1\ncommit\nopen\neditor 1\nopen\n")?;
+    let mut text = String::from_str(
+        rt.alloc(),
+        "editor 2\nopen\nremove #1\ncommit\nopen\neditor 1\nopen\n",
+    )?;
     for _ in 0..10_000 {
         text.push_str("remove #1\n")?;
     }
-    let full = format!(in rt.alloc(); "{text}editor 2\nremove #2\ncommit\neditor 1\ncommit\nsync\n")?;
+    let full = format!(in rt.alloc();
+        "{text}editor 2\nremove #2\ncommit\neditor 1\ncommit\nsync\n"
+    )?;
     assert!(rt; refused_at(rt.alloc(), full.as_bytes())?.is_none());
     let over = format!(in rt.alloc(); "{text}remove #1\ncommit\nsync\n")?;
     assert!(rt; refused_at(rt.alloc(), over.as_bytes())? == Some((10_008, TooManyEdits)));

@@ -5,7 +5,8 @@ use std::alloc::Global;
 use std::test::Fail;
 
 /// Lines of several editors in three phases.
-const SEVERAL: &str = "open\nadd #20=A($)\neditor 3\ntake\n\neditor 1\ncommit\neditor 03\ngive\nsync\n\
+const SEVERAL: &str =
+    "open\nadd #20=A($)\neditor 3\ntake\n\neditor 1\ncommit\neditor 03\ngive\nsync\n\
      publish\nwork 12\neditor 16\nsync\nopen\nset #7 Name  /* a */ 'X' \nremove #007\ncommit\nsync\n";
 
 /// In each phase the editor, a letter for what the line does, and the number that it names.
@@ -77,7 +78,10 @@ fn is_text(value: &Value, text: &str) -> bool {
 
 #[test]
 fn a_set_line_has_name_and_value(rt: HostRuntime) -> Result<(), Fail> {
-    let script = script_of(rt.alloc(), "open\nset #7 Name\t/* a */ 'X y' /* ' */\ncommit\nsync\n")?;
+    let script = script_of(
+        rt.alloc(),
+        "open\nset #7 Name\t/* a */ 'X y' /* ' */\ncommit\nsync\n",
+    )?;
     let lines = script.phases.as_slice()[0].lines.as_slice();
     assert!(rt; sets_name(&lines[1].act, "X y"));
     Ok(())

@@ -2,8 +2,9 @@
 ghost use Rattle.std.specs.Prelude.{IfOk};
 ghost use Rattle.ifc_base.specs.Ids.{HasDistinctIds};
 
-use express_decl::read_declarations;
-use ifc_base::{InstId, Instances, Key, Memory, Role};
+use ifc_base::{
+    EntityDecl, EntityDecls, InstId, Instances, Key, Memory, Name, Names, Role, TypeDecls,
+};
 use model_view::Snapshot;
 use p21_read::read_file;
 use schema_table::SchemaTable;
@@ -11,93 +12,436 @@ use std::alloc::Global;
 use std::collections::BTreeSet;
 use std::test::Fail;
 
-/// A cut of IFC4 (ISO 16739-1), and entities that it hasn't: `Texts` and `Doubled` with attributes for a user-defined predefined
-/// type, `Things` with an attribute for each kind of value, `System` and `Branch` as subtypes of what classifies.
-const SCHEMA: &str = "SCHEMA CUT;
-TYPE X = STRING; END_TYPE;
-ENTITY IfcPerson;
-  Identification, FamilyName, GivenName, MiddleNames, PrefixTitles, SuffixTitles, Roles, Addresses : X; END_ENTITY;
-ENTITY IfcOrganization; Identification, Name, Description, Roles, Addresses : X; END_ENTITY;
-ENTITY IfcPersonAndOrganization; ThePerson, TheOrganization, Roles : X; END_ENTITY;
-ENTITY IfcApplication; ApplicationDeveloper, Version, ApplicationFullName, ApplicationIdentifier : X; END_ENTITY;
-ENTITY IfcOwnerHistory; OwningUser, OwningApplication, State, ChangeAction, LastModifiedDate, LastModifyingUser,
-  LastModifyingApplication, CreationDate : X; END_ENTITY;
-ENTITY IfcNamedUnit ABSTRACT SUPERTYPE; Dimensions, UnitType : X; END_ENTITY;
-ENTITY IfcSIUnit SUBTYPE OF (IfcNamedUnit); Prefix, Name : X; DERIVE SELF\\IfcNamedUnit.Dimensions : X := 'x'; END_ENTITY;
-ENTITY IfcUnitAssignment; Units : X; END_ENTITY;
-ENTITY IfcRoot ABSTRACT SUPERTYPE; GlobalId, OwnerHistory, Name, Description : X; END_ENTITY;
-ENTITY IfcObject ABSTRACT SUPERTYPE SUBTYPE OF (IfcRoot); ObjectType : X; END_ENTITY;
-ENTITY IfcProduct ABSTRACT SUPERTYPE SUBTYPE OF (IfcObject); ObjectPlacement, Representation : X; END_ENTITY;
-ENTITY IfcElement ABSTRACT SUPERTYPE SUBTYPE OF (IfcProduct); Tag : X; END_ENTITY;
-ENTITY IfcWall SUBTYPE OF (IfcElement); PredefinedType : X; END_ENTITY;
-ENTITY IfcWallStandardCase SUBTYPE OF (IfcWall); END_ENTITY;
-ENTITY IfcDoor SUBTYPE OF (IfcElement); PredefinedType : X; END_ENTITY;
-ENTITY IfcOpeningElement SUBTYPE OF (IfcElement); PredefinedType : X; END_ENTITY;
-ENTITY IfcBuilding SUBTYPE OF (IfcProduct); END_ENTITY;
-ENTITY IfcBuildingStorey SUBTYPE OF (IfcProduct); LongName, CompositionType, Elevation : X; END_ENTITY;
-ENTITY IfcProject SUBTYPE OF (IfcRoot); ObjectType, LongName, Phase, RepresentationContexts, UnitsInContext : X; END_ENTITY;
-ENTITY IfcGroup SUBTYPE OF (IfcObject); END_ENTITY;
-ENTITY IfcTypeObject ABSTRACT SUPERTYPE SUBTYPE OF (IfcRoot); ApplicableOccurrence, HasPropertySets : X; END_ENTITY;
-ENTITY IfcWallType SUBTYPE OF (IfcTypeObject); RepresentationMaps, Tag, ElementType, PredefinedType : X; END_ENTITY;
-ENTITY IfcTaskType SUBTYPE OF (IfcTypeObject); ProcessType, PredefinedType : X; END_ENTITY;
-ENTITY Texts; ProcessType, ElementType, ObjectType, PredefinedType : X; END_ENTITY;
-ENTITY Doubled SUBTYPE OF (IfcObject); Mark, Mark, ObjectType, PredefinedType : X; END_ENTITY;
-ENTITY Base ABSTRACT SUPERTYPE; Made : X; END_ENTITY;
-ENTITY Things SUBTYPE OF (Base); A, B, C, D, E, F, G, H, I, J : X; DERIVE SELF\\Base.Made : X := 'x'; END_ENTITY;
-ENTITY IfcRelationship ABSTRACT SUPERTYPE SUBTYPE OF (IfcRoot); END_ENTITY;
-ENTITY IfcRelDefinesByProperties SUBTYPE OF (IfcRelationship); RelatedObjects, RelatingPropertyDefinition : X; END_ENTITY;
-ENTITY IfcRelDefinesByType SUBTYPE OF (IfcRelationship); RelatedObjects, RelatingType : X; END_ENTITY;
-ENTITY IfcRelAssociatesClassification SUBTYPE OF (IfcRelationship); RelatedObjects, RelatingClassification : X; END_ENTITY;
-ENTITY IfcRelAssociatesMaterial SUBTYPE OF (IfcRelationship); RelatedObjects, RelatingMaterial : X; END_ENTITY;
-ENTITY IfcRelAggregates SUBTYPE OF (IfcRelationship); RelatingObject, RelatedObjects : X; END_ENTITY;
-ENTITY IfcRelNests SUBTYPE OF (IfcRelationship); RelatingObject, RelatedObjects : X; END_ENTITY;
-ENTITY IfcRelContainedInSpatialStructure SUBTYPE OF (IfcRelationship); RelatedElements, RelatingStructure : X; END_ENTITY;
-ENTITY IfcRelAssignsToGroup SUBTYPE OF (IfcRelationship); RelatedObjects, RelatedObjectsType, RelatingGroup : X; END_ENTITY;
-ENTITY IfcRelAssignsToGroupByFactor SUBTYPE OF (IfcRelAssignsToGroup); Factor : X; END_ENTITY;
-ENTITY IfcRelVoidsElement SUBTYPE OF (IfcRelationship); RelatingBuildingElement, RelatedOpeningElement : X; END_ENTITY;
-ENTITY IfcRelFillsElement SUBTYPE OF (IfcRelationship); RelatingOpeningElement, RelatedBuildingElement : X; END_ENTITY;
-ENTITY IfcPropertySet SUBTYPE OF (IfcRoot); HasProperties : X; END_ENTITY;
-ENTITY IfcElementQuantity SUBTYPE OF (IfcRoot); MethodOfMeasurement, Quantities : X; END_ENTITY;
-ENTITY IfcProperty ABSTRACT SUPERTYPE; Name, Description : X; END_ENTITY;
-ENTITY IfcPropertySingleValue SUBTYPE OF (IfcProperty); NominalValue, Unit : X; END_ENTITY;
-ENTITY IfcPropertyEnumeratedValue SUBTYPE OF (IfcProperty); EnumerationValues, EnumerationReference : X; END_ENTITY;
-ENTITY IfcPropertyListValue SUBTYPE OF (IfcProperty); ListValues, Unit : X; END_ENTITY;
-ENTITY IfcPropertyBoundedValue SUBTYPE OF (IfcProperty); UpperBoundValue, LowerBoundValue, Unit, SetPointValue : X; END_ENTITY;
-ENTITY IfcPropertyTableValue SUBTYPE OF (IfcProperty); DefiningValues, DefinedValues : X; END_ENTITY;
-ENTITY IfcPropertyReferenceValue SUBTYPE OF (IfcProperty); UsageName, PropertyReference : X; END_ENTITY;
-ENTITY IfcComplexProperty SUBTYPE OF (IfcProperty); UsageName, HasProperties : X; END_ENTITY;
-ENTITY IfcPhysicalQuantity ABSTRACT SUPERTYPE; Name, Description, Unit : X; END_ENTITY;
-ENTITY IfcQuantityLength SUBTYPE OF (IfcPhysicalQuantity); LengthValue, Formula : X; END_ENTITY;
-ENTITY IfcQuantityArea SUBTYPE OF (IfcPhysicalQuantity); AreaValue, Formula : X; END_ENTITY;
-ENTITY IfcQuantityVolume SUBTYPE OF (IfcPhysicalQuantity); VolumeValue, Formula : X; END_ENTITY;
-ENTITY IfcQuantityCount SUBTYPE OF (IfcPhysicalQuantity); CountValue, Formula : X; END_ENTITY;
-ENTITY IfcQuantityWeight SUBTYPE OF (IfcPhysicalQuantity); WeightValue, Formula : X; END_ENTITY;
-ENTITY IfcQuantityTime SUBTYPE OF (IfcPhysicalQuantity); TimeValue, Formula : X; END_ENTITY;
-ENTITY IfcClassification; Source, Edition, EditionDate, Name, Description, Location, ReferenceTokens : X; END_ENTITY;
-ENTITY IfcExternalReference ABSTRACT SUPERTYPE; Location, Identification, Name : X; END_ENTITY;
-ENTITY IfcClassificationReference SUBTYPE OF (IfcExternalReference); ReferencedSource, Description, Sort : X; END_ENTITY;
-ENTITY System SUBTYPE OF (IfcClassification); END_ENTITY;
-ENTITY Branch SUBTYPE OF (IfcClassificationReference); END_ENTITY;
-ENTITY IfcDocumentReference SUBTYPE OF (IfcExternalReference); Description, ReferencedSource : X; END_ENTITY;
-ENTITY IfcMaterial; Name, Description, Category : X; END_ENTITY;
-ENTITY IfcMaterialList; Materials : X; END_ENTITY;
-ENTITY IfcMaterialLayer; Material, LayerThickness, IsVentilated, Name, Description, Category, Priority : X; END_ENTITY;
-ENTITY IfcMaterialLayerSet; MaterialLayers, LayerSetName, Description : X; END_ENTITY;
-ENTITY IfcMaterialLayerSetUsage;
-  ForLayerSet, LayerSetDirection, DirectionSense, OffsetFromReferenceLine, ReferenceExtent : X; END_ENTITY;
-ENTITY IfcMaterialProfile; Name, Description, Material, Profile, Priority, Category : X; END_ENTITY;
-ENTITY IfcMaterialProfileSet; Name, Description, MaterialProfiles, CompositeProfile : X; END_ENTITY;
-ENTITY IfcMaterialProfileSetUsage; ForProfileSet, CardinalPoint, ReferenceExtent : X; END_ENTITY;
-ENTITY IfcMaterialConstituent; Name, Description, Material, Fraction, Category : X; END_ENTITY;
-ENTITY IfcMaterialConstituentSet; Name, Description, MaterialConstituents : X; END_ENTITY;
-END_SCHEMA;
-";
+/// An entity: its name, its supertype or nothing, whether it is abstract, its own attributes, and those that it redeclares as
+/// derived; between the names of attributes stand blanks.
+type Entity = (&'static str, &'static str, bool, &'static str, &'static str);
+
+/// A cut of IFC4 (ISO 16739-1), and entities that it hasn't: `TEXTS` and `DOUBLED` with attributes for a user-defined predefined
+/// type, `THINGS` with an attribute for each kind of value, `SYSTEM` and `BRANCH` as subtypes of what classifies.
+const ENTITIES: [Entity; 72] = [
+    (
+        "IFCPERSON",
+        "",
+        false,
+        "Identification FamilyName GivenName MiddleNames PrefixTitles SuffixTitles Roles Addresses",
+        "",
+    ),
+    (
+        "IFCORGANIZATION",
+        "",
+        false,
+        "Identification Name Description Roles Addresses",
+        "",
+    ),
+    (
+        "IFCPERSONANDORGANIZATION",
+        "",
+        false,
+        "ThePerson TheOrganization Roles",
+        "",
+    ),
+    (
+        "IFCAPPLICATION",
+        "",
+        false,
+        "ApplicationDeveloper Version ApplicationFullName ApplicationIdentifier",
+        "",
+    ),
+    (
+        "IFCOWNERHISTORY",
+        "",
+        false,
+        "OwningUser OwningApplication State ChangeAction LastModifiedDate LastModifyingUser LastModifyingApplication CreationDate",
+        "",
+    ),
+    ("IFCNAMEDUNIT", "", true, "Dimensions UnitType", ""),
+    (
+        "IFCSIUNIT",
+        "IFCNAMEDUNIT",
+        false,
+        "Prefix Name",
+        "Dimensions",
+    ),
+    ("IFCUNITASSIGNMENT", "", false, "Units", ""),
+    (
+        "IFCROOT",
+        "",
+        true,
+        "GlobalId OwnerHistory Name Description",
+        "",
+    ),
+    ("IFCOBJECT", "IFCROOT", true, "ObjectType", ""),
+    (
+        "IFCPRODUCT",
+        "IFCOBJECT",
+        true,
+        "ObjectPlacement Representation",
+        "",
+    ),
+    ("IFCELEMENT", "IFCPRODUCT", true, "Tag", ""),
+    ("IFCWALL", "IFCELEMENT", false, "PredefinedType", ""),
+    ("IFCWALLSTANDARDCASE", "IFCWALL", false, "", ""),
+    ("IFCDOOR", "IFCELEMENT", false, "PredefinedType", ""),
+    (
+        "IFCOPENINGELEMENT",
+        "IFCELEMENT",
+        false,
+        "PredefinedType",
+        "",
+    ),
+    ("IFCBUILDING", "IFCPRODUCT", false, "", ""),
+    (
+        "IFCBUILDINGSTOREY",
+        "IFCPRODUCT",
+        false,
+        "LongName CompositionType Elevation",
+        "",
+    ),
+    (
+        "IFCPROJECT",
+        "IFCROOT",
+        false,
+        "ObjectType LongName Phase RepresentationContexts UnitsInContext",
+        "",
+    ),
+    ("IFCGROUP", "IFCOBJECT", false, "", ""),
+    (
+        "IFCTYPEOBJECT",
+        "IFCROOT",
+        true,
+        "ApplicableOccurrence HasPropertySets",
+        "",
+    ),
+    (
+        "IFCWALLTYPE",
+        "IFCTYPEOBJECT",
+        false,
+        "RepresentationMaps Tag ElementType PredefinedType",
+        "",
+    ),
+    (
+        "IFCTASKTYPE",
+        "IFCTYPEOBJECT",
+        false,
+        "ProcessType PredefinedType",
+        "",
+    ),
+    (
+        "TEXTS",
+        "",
+        false,
+        "ProcessType ElementType ObjectType PredefinedType",
+        "",
+    ),
+    (
+        "DOUBLED",
+        "IFCOBJECT",
+        false,
+        "Mark Mark ObjectType PredefinedType",
+        "",
+    ),
+    ("BASE", "", true, "Made", ""),
+    ("THINGS", "BASE", false, "A B C D E F G H I J", "Made"),
+    ("IFCRELATIONSHIP", "IFCROOT", true, "", ""),
+    (
+        "IFCRELDEFINESBYPROPERTIES",
+        "IFCRELATIONSHIP",
+        false,
+        "RelatedObjects RelatingPropertyDefinition",
+        "",
+    ),
+    (
+        "IFCRELDEFINESBYTYPE",
+        "IFCRELATIONSHIP",
+        false,
+        "RelatedObjects RelatingType",
+        "",
+    ),
+    (
+        "IFCRELASSOCIATESCLASSIFICATION",
+        "IFCRELATIONSHIP",
+        false,
+        "RelatedObjects RelatingClassification",
+        "",
+    ),
+    (
+        "IFCRELASSOCIATESMATERIAL",
+        "IFCRELATIONSHIP",
+        false,
+        "RelatedObjects RelatingMaterial",
+        "",
+    ),
+    (
+        "IFCRELAGGREGATES",
+        "IFCRELATIONSHIP",
+        false,
+        "RelatingObject RelatedObjects",
+        "",
+    ),
+    (
+        "IFCRELNESTS",
+        "IFCRELATIONSHIP",
+        false,
+        "RelatingObject RelatedObjects",
+        "",
+    ),
+    (
+        "IFCRELCONTAINEDINSPATIALSTRUCTURE",
+        "IFCRELATIONSHIP",
+        false,
+        "RelatedElements RelatingStructure",
+        "",
+    ),
+    (
+        "IFCRELASSIGNSTOGROUP",
+        "IFCRELATIONSHIP",
+        false,
+        "RelatedObjects RelatedObjectsType RelatingGroup",
+        "",
+    ),
+    (
+        "IFCRELASSIGNSTOGROUPBYFACTOR",
+        "IFCRELASSIGNSTOGROUP",
+        false,
+        "Factor",
+        "",
+    ),
+    (
+        "IFCRELVOIDSELEMENT",
+        "IFCRELATIONSHIP",
+        false,
+        "RelatingBuildingElement RelatedOpeningElement",
+        "",
+    ),
+    (
+        "IFCRELFILLSELEMENT",
+        "IFCRELATIONSHIP",
+        false,
+        "RelatingOpeningElement RelatedBuildingElement",
+        "",
+    ),
+    ("IFCPROPERTYSET", "IFCROOT", false, "HasProperties", ""),
+    (
+        "IFCELEMENTQUANTITY",
+        "IFCROOT",
+        false,
+        "MethodOfMeasurement Quantities",
+        "",
+    ),
+    ("IFCPROPERTY", "", true, "Name Description", ""),
+    (
+        "IFCPROPERTYSINGLEVALUE",
+        "IFCPROPERTY",
+        false,
+        "NominalValue Unit",
+        "",
+    ),
+    (
+        "IFCPROPERTYENUMERATEDVALUE",
+        "IFCPROPERTY",
+        false,
+        "EnumerationValues EnumerationReference",
+        "",
+    ),
+    (
+        "IFCPROPERTYLISTVALUE",
+        "IFCPROPERTY",
+        false,
+        "ListValues Unit",
+        "",
+    ),
+    (
+        "IFCPROPERTYBOUNDEDVALUE",
+        "IFCPROPERTY",
+        false,
+        "UpperBoundValue LowerBoundValue Unit SetPointValue",
+        "",
+    ),
+    (
+        "IFCPROPERTYTABLEVALUE",
+        "IFCPROPERTY",
+        false,
+        "DefiningValues DefinedValues",
+        "",
+    ),
+    (
+        "IFCPROPERTYREFERENCEVALUE",
+        "IFCPROPERTY",
+        false,
+        "UsageName PropertyReference",
+        "",
+    ),
+    (
+        "IFCCOMPLEXPROPERTY",
+        "IFCPROPERTY",
+        false,
+        "UsageName HasProperties",
+        "",
+    ),
+    ("IFCPHYSICALQUANTITY", "", true, "Name Description Unit", ""),
+    (
+        "IFCQUANTITYLENGTH",
+        "IFCPHYSICALQUANTITY",
+        false,
+        "LengthValue Formula",
+        "",
+    ),
+    (
+        "IFCQUANTITYAREA",
+        "IFCPHYSICALQUANTITY",
+        false,
+        "AreaValue Formula",
+        "",
+    ),
+    (
+        "IFCQUANTITYVOLUME",
+        "IFCPHYSICALQUANTITY",
+        false,
+        "VolumeValue Formula",
+        "",
+    ),
+    (
+        "IFCQUANTITYCOUNT",
+        "IFCPHYSICALQUANTITY",
+        false,
+        "CountValue Formula",
+        "",
+    ),
+    (
+        "IFCQUANTITYWEIGHT",
+        "IFCPHYSICALQUANTITY",
+        false,
+        "WeightValue Formula",
+        "",
+    ),
+    (
+        "IFCQUANTITYTIME",
+        "IFCPHYSICALQUANTITY",
+        false,
+        "TimeValue Formula",
+        "",
+    ),
+    (
+        "IFCCLASSIFICATION",
+        "",
+        false,
+        "Source Edition EditionDate Name Description Location ReferenceTokens",
+        "",
+    ),
+    (
+        "IFCEXTERNALREFERENCE",
+        "",
+        true,
+        "Location Identification Name",
+        "",
+    ),
+    (
+        "IFCCLASSIFICATIONREFERENCE",
+        "IFCEXTERNALREFERENCE",
+        false,
+        "ReferencedSource Description Sort",
+        "",
+    ),
+    ("SYSTEM", "IFCCLASSIFICATION", false, "", ""),
+    ("BRANCH", "IFCCLASSIFICATIONREFERENCE", false, "", ""),
+    (
+        "IFCDOCUMENTREFERENCE",
+        "IFCEXTERNALREFERENCE",
+        false,
+        "Description ReferencedSource",
+        "",
+    ),
+    ("IFCMATERIAL", "", false, "Name Description Category", ""),
+    ("IFCMATERIALLIST", "", false, "Materials", ""),
+    (
+        "IFCMATERIALLAYER",
+        "",
+        false,
+        "Material LayerThickness IsVentilated Name Description Category Priority",
+        "",
+    ),
+    (
+        "IFCMATERIALLAYERSET",
+        "",
+        false,
+        "MaterialLayers LayerSetName Description",
+        "",
+    ),
+    (
+        "IFCMATERIALLAYERSETUSAGE",
+        "",
+        false,
+        "ForLayerSet LayerSetDirection DirectionSense OffsetFromReferenceLine ReferenceExtent",
+        "",
+    ),
+    (
+        "IFCMATERIALPROFILE",
+        "",
+        false,
+        "Name Description Material Profile Priority Category",
+        "",
+    ),
+    (
+        "IFCMATERIALPROFILESET",
+        "",
+        false,
+        "Name Description MaterialProfiles CompositeProfile",
+        "",
+    ),
+    (
+        "IFCMATERIALPROFILESETUSAGE",
+        "",
+        false,
+        "ForProfileSet CardinalPoint ReferenceExtent",
+        "",
+    ),
+    (
+        "IFCMATERIALCONSTITUENT",
+        "",
+        false,
+        "Name Description Material Fraction Category",
+        "",
+    ),
+    (
+        "IFCMATERIALCONSTITUENTSET",
+        "",
+        false,
+        "Name Description MaterialConstituents",
+        "",
+    ),
+];
 
 /// What stands before the instances of an exchange file.
 const FRONT: &str = "ISO-10303-21;HEADER;FILE_DESCRIPTION();FILE_NAME();FILE_SCHEMA();ENDSEC;DATA;";
 
 /// What stands behind them.
 const BACK: &str = "ENDSEC;END-ISO-10303-21;";
+
+/// The names between the blanks.
+fn names(alloc: Global, texts: &str) -> Result<Names, Memory> {
+    let mut names = Vec::new(alloc);
+    for text in texts.split(' ') {
+        if !text.is_empty() {
+            names.push(Name::from_str(alloc, text)?)?;
+        }
+    }
+    Ok(Names::from_vec(names))
+}
+
+fn entity(alloc: Global, entity: &Entity) -> Result<EntityDecl, Memory> {
+    let (name, parent, is_abstract, own, derived) = entity;
+    let parent = match *parent {
+        "" => None,
+        parent => Some(Name::from_str(alloc, parent)?),
+    };
+    Ok(EntityDecl {
+        name: Name::from_str(alloc, *name)?,
+        parent,
+        is_abstract: *is_abstract,
+        own: names(alloc, *own)?,
+        derived: names(alloc, *derived)?,
+    })
+}
 
 /// The schema of the models.
 pub fn schema(alloc: Global) -> Result<SchemaTable, Fail> {

@@ -216,7 +216,7 @@ struct Part<'t> {
 }
 
 /// The member that a field of the table is.
-fn part(field: &str) -> Part<'_> {
+fn member_of(field: &str) -> Part<'_> {
     let (mark, rest) = match field.chars().next() {
         Some('!') => ('!', &field[1..]),
         Some('?') => ('?', &field[1..]),
@@ -227,16 +227,11 @@ fn part(field: &str) -> Part<'_> {
 }
 
 /// The object of the members of the table, where `instead` stands in place of the member at `at`.
-fn object(
-    alloc: Global,
-    members: &str,
-    at: usize,
-    instead: &str,
-) -> Result<String, AllocError> {
+fn object(alloc: Global, members: &str, at: usize, instead: &str) -> Result<String, AllocError> {
     let mut text = String::from_str(alloc, "{")?;
     let mut first = true;
     for (i, field) in members.split('|').enumerate() {
-        let member = part(field);
+        let member = member_of(field);
         let written = if i == at {
             String::from_str(alloc, instead)?
         } else {
@@ -292,7 +287,7 @@ fn check_object<R: Abort>(
     let line = (place, name, members);
     check_with(rt, alloc, schema, line, usize::MAX, "", "read")?;
     for (at, field) in members.split('|').enumerate() {
-        let member = part(field);
+        let member = member_of(field);
         let missing = if member.mark == '!' { "Shape" } else { "read" };
         let wrong = if member.mark == '?' { "read" } else { "Shape" };
         let own = format!(in alloc; "{}:{}", member.name, member.value)?;

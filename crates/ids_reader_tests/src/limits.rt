@@ -20,14 +20,12 @@ fn repeated(alloc: Global, piece: &str, times: usize) -> Result<String, AllocErr
 }
 
 /// A restriction of so many enumerations and patterns, as a condition.
-fn restriction(
-    alloc: Global,
-    enumerations: usize,
-    patterns: usize,
-) -> Result<String, AllocError> {
+fn restriction(alloc: Global, enumerations: usize, patterns: usize) -> Result<String, AllocError> {
     let enumerations = repeated(alloc, "'a'", enumerations)?;
     let patterns = repeated(alloc, "'b'", patterns)?;
-    format!(in alloc; "{{'restriction':{{'base':'xs:string','enumeration':[{enumerations}],'pattern':[{patterns}]}}}}")
+    format!(in alloc;
+        "{{'restriction':{{'base':'xs:string','enumeration':[{enumerations}],'pattern':[{patterns}]}}}}"
+    )
 }
 
 /// Arrays within one another.

@@ -40,7 +40,11 @@ fn push_facet(alloc: Global, out: &mut String, facet: &Facet) -> Result<(), Allo
         Facet::Entity(facet) => {
             let wall = facet.name.admits_text(alloc, "IFCWALL");
             let slab = facet.name.admits_text(alloc, "IFCSLAB");
-            let front = if facet.predefined.is_some() { "typed " } else { "" };
+            let front = if facet.predefined.is_some() {
+                "typed "
+            } else {
+                ""
+            };
             format!(in alloc; "{front}entity {wall:?} {slab:?};")?
         }
         Facet::Attribute(facet) => {
@@ -59,15 +63,27 @@ fn push_facet(alloc: Global, out: &mut String, facet: &Facet) -> Result<(), Allo
             None => format!(in alloc; "property any type;")?,
         },
         Facet::Classification(facet) => {
-            let by = if facet.system.is_some() { " by system" } else { "" };
+            let by = if facet.system.is_some() {
+                " by system"
+            } else {
+                ""
+            };
             format!(in alloc; "classification{by};")?
         }
         Facet::Material(facet) => {
-            let by = if facet.value.is_some() { " by value" } else { "" };
+            let by = if facet.value.is_some() {
+                " by value"
+            } else {
+                ""
+            };
             format!(in alloc; "material{by};")?
         }
         Facet::PartOf(facet) => {
-            let of = if facet.entity.is_some() { " of an entity" } else { "" };
+            let of = if facet.entity.is_some() {
+                " of an entity"
+            } else {
+                ""
+            };
             format!(in alloc; "partOf {:?}{of};", facet.relation)?
         }
     };
@@ -75,15 +91,26 @@ fn push_facet(alloc: Global, out: &mut String, facet: &Facet) -> Result<(), Allo
 }
 
 /// A requirement in a line of its own.
-fn push_requirement(alloc: Global, out: &mut String, requirement: &Requirement) -> Result<(), AllocError> {
+fn push_requirement(
+    alloc: Global,
+    out: &mut String,
+    requirement: &Requirement,
+) -> Result<(), AllocError> {
     push_facet(alloc, out, &requirement.facet)?;
     let cardinality = format!(in alloc; " {:?}\n", requirement.cardinality)?;
     out.push_str(cardinality.as_str())
 }
 
 /// What a specification says, in lines.
-fn push_specification(alloc: Global, out: &mut String, specification: &Specification) -> Result<(), AllocError> {
-    let head = format!(in alloc; "{} {} {:?};", specification.number, specification.for_model, specification.occurs)?;
+fn push_specification(
+    alloc: Global,
+    out: &mut String,
+    specification: &Specification,
+) -> Result<(), AllocError> {
+    let head = format!(in alloc;
+        "{} {} {:?};",
+        specification.number, specification.for_model, specification.occurs
+    )?;
     out.push_str(head.as_str())?;
     for facet in specification.applicability.as_slice() {
         out.push(' ')?;

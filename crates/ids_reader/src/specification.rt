@@ -156,7 +156,8 @@ fn applicable_of(
     applicability: &Value,
 ) -> Result<Requirements, Refusal<IdsFault>>
     requires { length (items_at (codes "facets") (view applicability.now)) ≤ 64 }
-    ensures { Answers (facets_from schema.now (in_applicability number for_model) 1 false (items_at (codes "facets") (view applicability.now))) result }
+    ensures { Answers (facets_from schema.now (in_applicability number for_model) 1 false
+        (items_at (codes "facets") (view applicability.now))) result }
 {
     let setting = Setting {
         spec: number,
@@ -177,7 +178,8 @@ fn required_of(
 ) -> Result<Requirements, Refusal<IdsFault>>
     requires few { length (items_at (codes "requirements") (view value.now)) ≤ 64 }
     requires first { first ≤ 65 }
-    ensures { Answers (facets_from schema.now (in_requirements number for_model) first false (items_at (codes "requirements") (view value.now))) result }
+    ensures { Answers (facets_from schema.now (in_requirements number for_model) first false
+        (items_at (codes "requirements") (view value.now))) result }
 {
     let setting = Setting {
         spec: number,

@@ -3,8 +3,9 @@ ghost use Rattle.std.specs.Prelude.{◌≡◌, option_and_then};
 ghost use Rattle.serde_json.specs.View.{view};
 ghost use Rattle.audit_model.specs.Specifications as model;
 ghost use Rattle.ids_reader.specs.Reads.{Answers};
-ghost use Rattle.ids_reader.specs.Standing.{cardinality_named, cardinality_of, cardinality_said, facet_named, form_of};
-ghost use Rattle.ids_reader.specs.Standing.{head_of, is_allowed, is_entity_kind, kind_said, may_require, object_of, size_of, word_of};
+ghost use Rattle.ids_reader.specs.Standing.{cardinality_named, cardinality_of, cardinality_said, facet_named};
+ghost use Rattle.ids_reader.specs.Standing.{form_of, head_of, is_allowed, is_entity_kind, kind_said};
+ghost use Rattle.ids_reader.specs.Standing.{may_require, object_of, size_of, word_of};
 
 use crate::condition::{has_known, is_object_of, is_small};
 use crate::fault::IdsCause;

@@ -216,7 +216,7 @@ struct Part<'t> {
 }
 
 /// The member that a field of the table is.
-fn part(field: &str) -> Part<'_> {
+fn member_of(field: &str) -> Part<'_> {
     let (mark, rest) = match field.chars().next() {
         Some('!') => ('!', &field[1..]),
         Some('?') => ('?', &field[1..]),
@@ -226,59 +226,118 @@ fn part(field: &str) -> Part<'_> {
     Part { mark, name, value }
 }
 
-/// The object of the members of the table, where `instead` stands in place of the member at `at`.
-fn object(
-    alloc: Global,
-    members: &str,
-    at: usize,
-    instead: &str,
-) -> Result<String, AllocError> {
-    let mut text = String::from_str(alloc, "{")?;
-    let mut first = true;
-    for (i, field) in members.split('|').enumerate() {
-        let member = part(field);
-        let written = if i == at {
-            String::from_str(alloc, instead)?
-        } else {
-            format!(in alloc; "{}:{}", member.name, member.value)?
-        };
-        if !written.as_str().is_empty() {
-            if !first {
-                text.push(',')?;
-            }
-            text.push_str(written.as_str())?;
-            first = false;
+/// What stands in place of a member: itself; nothing; a null or a number; a null and then itself, or the other way
+/// round; itself and a member that no object has.
+#[derive(Clone, Copy)]
+enum Variant {
+    Own,
+    Missing,
+    Null,
+    Number,
+    WrongFirst,
+    WrongLast,
+    Further,
+}
+
+const VARIANTS: [Variant; 7] = [
+    Variant::Own,
+    Variant::Missing,
+    Variant::Null,
+    Variant::Number,
+    Variant::WrongFirst,
+    Variant::WrongLast,
+    Variant::Further,
+];
+
+/// Adds a member to an object that is begun.
+fn push_pair(out: &mut String, name: &str, value: &str) -> Result<(), AllocError> {
+    if out.len() > 1 {
+        out.push(',')?;
+    }
+    out.push_str(name)?;
+    out.push(':')?;
+    out.push_str(value)
+}
+
+/// Adds what stands in place of the member.
+fn push_member(out: &mut String, member: Part<'_>, variant: Variant) -> Result<(), AllocError> {
+    match variant {
+        Variant::Own => push_pair(out, member.name, member.value),
+        Variant::Missing => Ok(()),
+        Variant::Null => push_pair(out, member.name, "null"),
+        Variant::Number => push_pair(out, member.name, "1"),
+        Variant::WrongFirst => {
+            push_pair(out, member.name, "null")?;
+            push_pair(out, member.name, member.value)
         }
+        Variant::WrongLast => {
+            push_pair(out, member.name, member.value)?;
+            push_pair(out, member.name, "null")
+        }
+        Variant::Further => {
+            push_pair(out, member.name, member.value)?;
+            push_pair(out, "'other'", "1")
+        }
+    }
+}
+
+/// The object of the members of the table, with the variant of the member at `at`.
+fn object(alloc: Global, members: &str, at: usize, variant: Variant) -> Result<String, AllocError> {
+    let mut text = String::from_str(alloc, "{")?;
+    for (i, field) in members.split('|').enumerate() {
+        let own = if i == at { variant } else { Variant::Own };
+        push_member(&mut text, member_of(field), own)?;
     }
     text.push('}')?;
     Ok(text)
 }
 
-/// Compares what is answered where `instead` stands in place of the member at `at`.
-fn check_with<R: Abort>(
+/// What is to be answered for the variant of a member with this mark: `read`, or a cause.
+fn wanted(mark: char, variant: Variant) -> &'static str {
+    match variant {
+        Variant::Own | Variant::WrongFirst => "read",
+        Variant::Missing => { if mark == '!' { "Shape" } else { "read" } }
+        Variant::Null | Variant::Number | Variant::WrongLast => {
+            if mark == '?' { "read" } else { "Shape" }
+        }
+        Variant::Further => "UnknownMember",
+    }
+}
+
+/// Whether this is answered: `read`, or the cause at the place.
+fn is_answered(found: &str, place: &str, want: &str) -> bool {
+    if want == "read" {
+        return found == want;
+    }
+    match found.strip_prefix(place) {
+        Some(rest) => rest.trim() == want,
+        None => false,
+    }
+}
+
+/// Each variant of the member at `at` is answered as the member asks.
+fn check_member<R: Abort>(
     rt: &R,
     alloc: Global,
     schema: &SchemaTable,
     line: (&str, &str, &str),
     at: usize,
-    instead: &str,
-    want: &str,
+    mark: char,
 ) -> Result<(), Fail> {
     let (place, name, members) = line;
-    let piece = object(alloc, members, at, instead)?;
-    let text = document(alloc, frame(name), piece.as_str())?;
-    let found = answer(alloc, schema, text.as_str())?;
-    if want == "read" {
-        assert_eq!(rt; found.as_str(), "read", "{piece}");
-    } else {
-        let cause = format!(in alloc; "{place} {want}")?;
-        assert_eq!(rt; found.as_str(), cause.as_str(), "{piece}");
+    for variant in VARIANTS {
+        let piece = object(alloc, members, at, variant)?;
+        let text = document(alloc, frame(name), piece.as_str())?;
+        let found = answer(alloc, schema, text.as_str())?;
+        assert!(rt;
+            is_answered(found.as_str(), place, wanted(mark, variant)),
+            "{text}"
+        );
     }
     Ok(())
 }
 
-/// The object is read; without a member, with a null or a number there, and with the member twice it is answered as
-/// the member asks; and a further member is one that the form hasn't.
+/// Each member of the object of the line is asked for as its mark says.
 fn check_object<R: Abort>(
     rt: &R,
     alloc: Global,
@@ -289,28 +348,9 @@ fn check_object<R: Abort>(
     let place = fields.next().unwrap_or("");
     let name = fields.next().unwrap_or("");
     let members = fields.next().unwrap_or("");
-    let line = (place, name, members);
-    check_with(rt, alloc, schema, line, usize::MAX, "", "read")?;
     for (at, field) in members.split('|').enumerate() {
-        let member = part(field);
-        let missing = if member.mark == '!' { "Shape" } else { "read" };
-        let wrong = if member.mark == '?' { "read" } else { "Shape" };
-        let own = format!(in alloc; "{}:{}", member.name, member.value)?;
-        let null = format!(in alloc; "{}:null", member.name)?;
-        let number = format!(in alloc; "{}:1", member.name)?;
-        let first_wrong = format!(in alloc; "{null},{own}")?;
-        let last_wrong = format!(in alloc; "{own},{null}")?;
-        let further = format!(in alloc; "{own},'other':1")?;
-        for (instead, want) in [
-            ("", missing),
-            (null.as_str(), wrong),
-            (number.as_str(), wrong),
-            (first_wrong.as_str(), "read"),
-            (last_wrong.as_str(), wrong),
-            (further.as_str(), "UnknownMember"),
-        ] {
-            check_with(rt, alloc, schema, line, at, instead, want)?;
-        }
+        let mark = member_of(field).mark;
+        check_member(rt, alloc, schema, (place, name, members), at, mark)?;
     }
     Ok(())
 }

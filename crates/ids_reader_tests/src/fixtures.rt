@@ -89,7 +89,10 @@ pub fn answer(alloc: Global, schema: &SchemaTable, text: &str) -> Result<String,
     let schema_id = Name::from_str(alloc, "IFC4")?;
     match read_ids(alloc, text.as_bytes(), schema, &schema_id) {
         Ok(_) => Ok(String::from_str(alloc, "read")?),
-        Err(Refusal::Fault(fault)) => Ok(format!(in alloc; "{} {} {:?}", fault.spec, fault.place, fault.why)?),
+        Err(Refusal::Fault(fault)) => Ok(format!(in alloc;
+            "{} {} {:?}",
+            fault.spec, fault.place, fault.why
+        )?),
         Err(Refusal::Memory) => Ok(String::from_str(alloc, "memory")?),
     }
 }

@@ -1,8 +1,9 @@
 use crate::fixtures::{document, schema};
-use audit_model::{Facet, Requirement, Specification};
+use audit_model::{Cardinality, Facet, Occurs, Relation, Specification};
 use ids_reader::read_ids;
-use ifc_base::Name;
+use ifc_base::{Memory, Name};
 use std::alloc::{AllocError, Global};
+use std::process::Abort;
 use std::test::Fail;
 
 /// Two specifications, the first with each facet, the second for another schema and without facets.
@@ -22,76 +23,154 @@ const DOCUMENT: &str = "{'specifications':[{'name':'a','ifcVersion':['IFC2X3','I
 {'facet':'partOf','cardinality':'prohibited'}]},
 {'name':'b','ifcVersion':['ifc4'],'applicability':{'minOccurs':'0','maxOccurs':'0','facets':[]},'requirements':[]}]}";
 
-const TOLD: &str = "1 true Required; entity Ok(true) Ok(false); material;
-typed entity Ok(true) Ok(false); Required
-attribute Ok(false) value Ok(true) Ok(false); Optional
-property IFCLENGTHMEASURE\u{e9}; Prohibited
-property any type; Required
-classification by system; Required
-material by value; Required
-partOf VoidsFills of an entity; Required
-partOf Any; Prohibited
-2 false Prohibited;
+const TOLD: &str = "entity material;
+typed entity required
+attribute by value optional
+property IFCLENGTHMEASURE\u{e9} prohibited
+property of any type required
+classification by system required
+material by value required
+partOf voids and fills an entity required
+partOf anything prohibited
+;
 ";
 
-/// What a facet says, told in a line.
-fn push_facet(alloc: Global, out: &mut String, facet: &Facet) -> Result<(), AllocError> {
-    let told = match facet {
-        Facet::Entity(facet) => {
-            let wall = facet.name.admits_text(alloc, "IFCWALL");
-            let slab = facet.name.admits_text(alloc, "IFCSLAB");
-            let front = if facet.predefined.is_some() { "typed " } else { "" };
-            format!(in alloc; "{front}entity {wall:?} {slab:?};")?
-        }
-        Facet::Attribute(facet) => {
-            let name = facet.name.admits_text(alloc, "W01");
-            match &facet.value {
-                Some(value) => {
-                    let matched = value.admits_text(alloc, "W01");
-                    let other = value.admits_text(alloc, "W011");
-                    format!(in alloc; "attribute {name:?} value {matched:?} {other:?};")?
-                }
-                None => format!(in alloc; "attribute {name:?};")?,
-            }
-        }
-        Facet::Property(facet) => match &facet.kind {
-            Some(kind) => format!(in alloc; "property {};", kind.as_str())?,
-            None => format!(in alloc; "property any type;")?,
+/// The requirement at a place from 0, a text, and whether its name, or else its value, admits the text.
+const ADMITTED: [(usize, &str, bool); 4] = [
+    (0, "IFCWALL", true),
+    (0, "IFCSLAB", false),
+    (1, "W01", true),
+    (1, "W011", false),
+];
+
+/// What a facet says, in words.
+fn words(facet: &Facet) -> &str {
+    match facet {
+        Facet::Entity(facet) => match facet.predefined {
+            Some(_) => "typed entity",
+            None => "entity",
         },
-        Facet::Classification(facet) => {
-            let by = if facet.system.is_some() { " by system" } else { "" };
-            format!(in alloc; "classification{by};")?
-        }
-        Facet::Material(facet) => {
-            let by = if facet.value.is_some() { " by value" } else { "" };
-            format!(in alloc; "material{by};")?
-        }
-        Facet::PartOf(facet) => {
-            let of = if facet.entity.is_some() { " of an entity" } else { "" };
-            format!(in alloc; "partOf {:?}{of};", facet.relation)?
-        }
-    };
-    out.push_str(told.as_str())
-}
-
-/// A requirement in a line of its own.
-fn push_requirement(alloc: Global, out: &mut String, requirement: &Requirement) -> Result<(), AllocError> {
-    push_facet(alloc, out, &requirement.facet)?;
-    let cardinality = format!(in alloc; " {:?}\n", requirement.cardinality)?;
-    out.push_str(cardinality.as_str())
-}
-
-/// What a specification says, in lines.
-fn push_specification(alloc: Global, out: &mut String, specification: &Specification) -> Result<(), AllocError> {
-    let head = format!(in alloc; "{} {} {:?};", specification.number, specification.for_model, specification.occurs)?;
-    out.push_str(head.as_str())?;
-    for facet in specification.applicability.as_slice() {
-        out.push(' ')?;
-        push_facet(alloc, out, facet)?;
+        Facet::Attribute(facet) => match facet.value {
+            Some(_) => "attribute by value",
+            None => "attribute",
+        },
+        Facet::Property(_) => "property",
+        Facet::Classification(facet) => match facet.system {
+            Some(_) => "classification by system",
+            None => "classification",
+        },
+        Facet::Material(facet) => match facet.value {
+            Some(_) => "material by value",
+            None => "material",
+        },
+        Facet::PartOf(_) => "partOf",
     }
-    out.push('\n')?;
+}
+
+/// What it says besides: the data type of a property; the relation of a partOf facet, and whether it asks for an
+/// entity.
+fn further(facet: &Facet) -> &str {
+    match facet {
+        Facet::Property(facet) => match &facet.kind {
+            Some(kind) => kind.as_str(),
+            None => "of any type",
+        },
+        Facet::PartOf(facet) => match (facet.relation, &facet.entity) {
+            (Relation::VoidsFills, Some(_)) => "voids and fills an entity",
+            (Relation::Any, None) => "anything",
+            _ => "otherwise",
+        },
+        _ => "",
+    }
+}
+
+/// A facet in words, behind a blank if something stands before it in the line.
+fn push_facet(out: &mut String, facet: &Facet) -> Result<(), AllocError> {
+    out.push_str(words(facet))?;
+    let further = further(facet);
+    if !further.is_empty() {
+        out.push(' ')?;
+        out.push_str(further)?;
+    }
+    Ok(())
+}
+
+/// The word of a cardinality.
+fn cardinality_word(cardinality: Cardinality) -> &'static str {
+    match cardinality {
+        Cardinality::Required => " required\n",
+        Cardinality::Optional => " optional\n",
+        Cardinality::Prohibited => " prohibited\n",
+    }
+}
+
+/// The facets of a specification in words, a line for the applicability and one for each requirement.
+fn push_specification(out: &mut String, specification: &Specification) -> Result<(), AllocError> {
+    for (at, facet) in specification.applicability.as_slice().iter().enumerate() {
+        if at > 0 {
+            out.push(' ')?;
+        }
+        push_facet(out, facet)?;
+    }
+    out.push_str(";\n")?;
     for requirement in specification.requirements.as_slice() {
-        push_requirement(alloc, out, requirement)?;
+        push_facet(out, &requirement.facet)?;
+        out.push_str(cardinality_word(requirement.cardinality))?;
+    }
+    Ok(())
+}
+
+/// Whether the name of an entity facet, or the value of an attribute facet, admits the text.
+fn is_admitted(alloc: Global, facet: &Facet, text: &str) -> Result<bool, Memory> {
+    match facet {
+        Facet::Entity(facet) => facet.name.admits_text(alloc, text),
+        Facet::Attribute(facet) => match &facet.value {
+            Some(value) => value.admits_text(alloc, text),
+            None => Ok(false),
+        },
+        _ => Ok(false),
+    }
+}
+
+/// Compares what the conditions of the first specification admit with the table.
+fn check_admitted<R: Abort>(
+    rt: &R,
+    alloc: Global,
+    specifications: &[Specification],
+) -> Result<(), Fail> {
+    for (at, text, want) in ADMITTED {
+        let requirement = specifications.first().and_then(|specification| specification
+            .requirements
+            .as_slice()
+            .get(at));
+        match requirement {
+            Some(requirement) => {
+                assert_eq!(rt; is_admitted(alloc, &requirement.facet, text)?, want);
+            }
+            None => panic!(rt; "no requirement"),
+        }
+    }
+    Ok(())
+}
+
+/// Compares what the specifications say with what is written.
+fn check_told<R: Abort>(
+    rt: &R,
+    alloc: Global,
+    specifications: &[Specification],
+) -> Result<(), Fail> {
+    let mut told = String::new(alloc);
+    for specification in specifications {
+        push_specification(&mut told, specification)?;
+    }
+    assert_eq!(rt; told.as_str(), TOLD);
+    for (specification, (number, for_model, occurs)) in specifications.iter().zip([
+        (1, true, Occurs::Required),
+        (2, false, Occurs::Prohibited),
+    ]) {
+        assert_eq!(rt; specification.number, number);
+        assert_eq!(rt; specification.for_model, for_model);
+        assert_eq!(rt; specification.occurs, occurs);
     }
     Ok(())
 }
@@ -99,19 +178,14 @@ fn push_specification(alloc: Global, out: &mut String, specification: &Specifica
 /// A document with each facet says what stands in it.
 #[test]
 fn each_facet_says_what_is_written(rt: HostRuntime) -> Result<(), Fail> {
-    let alloc = rt.alloc();
-    let schema = schema(alloc)?;
-    let schema_id = Name::from_str(alloc, "IFC4")?;
-    let text = document(alloc, DOCUMENT, "")?;
-    match read_ids(alloc, text.as_bytes(), &schema, &schema_id) {
+    let schema = schema(rt.alloc())?;
+    let schema_id = Name::from_str(rt.alloc(), "IFC4")?;
+    let text = document(rt.alloc(), DOCUMENT, "")?;
+    match read_ids(rt.alloc(), text.as_bytes(), &schema, &schema_id) {
         Ok(specifications) => {
-            let mut told = String::new(alloc);
-            for specification in specifications.as_slice() {
-                push_specification(alloc, &mut told, specification)?;
-            }
-            assert_eq!(rt; told.as_str(), TOLD);
+            check_told(&rt, rt.alloc(), specifications.as_slice())?;
+            check_admitted(&rt, rt.alloc(), specifications.as_slice())
         }
-        Err(refused) => panic!(rt; "{refused:?}"),
+        Err(_) => panic!(rt; "not read"),
     }
-    Ok(())
 }

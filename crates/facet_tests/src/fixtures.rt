@@ -445,8 +445,12 @@ fn entity(alloc: Global, entity: &Entity) -> Result<EntityDecl, Memory> {
 
 /// The schema of the models.
 pub fn schema(alloc: Global) -> Result<SchemaTable, Fail> {
-    let declared = read_declarations(alloc, SCHEMA.as_bytes())?;
-    Ok(SchemaTable::build(alloc, declared.entities, declared.types)?)
+    let mut entities = Vec::new(alloc);
+    for declared in &ENTITIES {
+        entities.push(entity(alloc, declared)?)?;
+    }
+    let entities = EntityDecls::from_vec(entities);
+    Ok(SchemaTable::build(alloc, entities, TypeDecls::new(alloc))?)
 }
 
 /// The instances of these lines.

@@ -207,7 +207,7 @@ const OBJECTS: &str = "0 0|whole|!'specifications':[]|?'info':{'any':[1]}
 1 1|restriction|!'base':'xs:integer'|'minInclusive':'1'|'maxInclusive':'2'|'enumeration':['1']
 1 1|restriction|!'base':'xs:decimal'|'minExclusive':'1'|'maxExclusive':'2'|'length':'1'";
 
-/// A member of an object: the mark before it, its name with the colon, and its value.
+/// A member of an object: the mark before it, its name in quotes, and its value.
 #[derive(Clone, Copy)]
 struct Part<'t> {
     mark: char,
@@ -217,10 +217,10 @@ struct Part<'t> {
 
 /// The member that a field of the table is.
 fn member_of(field: &str) -> Part<'_> {
-    let (mark, rest) = match field.chars().next() {
-        Some('!') => ('!', &field[1..]),
-        Some('?') => ('?', &field[1..]),
-        _ => (' ', field),
+    let (mark, rest) = match (field.strip_prefix("!"), field.strip_prefix("?")) {
+        (Some(rest), _) => ('!', rest),
+        (None, Some(rest)) => ('?', rest),
+        (None, None) => (' ', field),
     };
     let (name, value) = rest.split_once(':').unwrap_or((rest, ""));
     Part { mark, name, value }

@@ -169,6 +169,21 @@ fn ids_text(alloc: Global, ids: &[InstId]) -> Result<String, Memory> {
     Ok(text)
 }
 
+/// The ends of the row's walk, and the keys that it looks at, with one that was there before.
+fn walked(
+    alloc: Global,
+    schema: &SchemaTable,
+    look: &Snapshot,
+    from: u32,
+    path: Path,
+) -> Result<String, Fail> {
+    let mut reads = Keys::from_vec(vec![in alloc; Key::Inst(id(999)?)]?);
+    let ends = walk(alloc, schema, look, id(from)?, path, &mut reads)?;
+    let ends = ids_text(alloc, ends.as_slice())?;
+    let keys = keys_text(alloc, reads.as_slice())?;
+    Ok(format!(in alloc; "{}by {}", ends.as_str(), keys.as_str())?)
+}
+
 /// Walks each row; what was in the keys before stays there.
 fn expect(
     rt: &impl Abort,
@@ -178,16 +193,10 @@ fn expect(
     rows: &[Row],
 ) -> Result<(), Fail> {
     for (from, path, ends, keys) in rows {
-        let mut reads = Keys::from_vec(vec![in alloc; Key::Inst(id(999)?)]?);
-        let found = walk(alloc, schema, look, id(*from)?, *path, &mut reads)?;
-        let found = ids_text(alloc, found.as_slice())?;
-        let read = keys_text(alloc, reads.as_slice())?;
-        assert_eq!(rt; found.as_str().trim_end(), *ends, "{from} {path:?}");
-        assert_eq!(rt;
-            read.as_str(),
-            format!(in alloc; "{keys} 999 ")?.as_str(),
-            "{from} {path:?}"
-        );
+        let found = walked(alloc, schema, look, *from, *path)?;
+        let blank = if ends.is_empty() { "" } else { " " };
+        let wanted = format!(in alloc; "{ends}{blank}by {keys} 999 ")?;
+        assert_eq!(rt; found.as_str(), wanted.as_str(), "from {from}");
     }
     Ok(())
 }

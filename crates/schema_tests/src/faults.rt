@@ -10,7 +10,7 @@ type Entities = &'static [(&'static str, &'static str)];
 
 /// Entities, the number of own attributes of one more behind them, that of types, and what is refused, if
 /// anything is.
-const SCHEMAS: [(Entities, u32, u32, &str); 17] = [
+const SCHEMAS: &[(Entities, u32, u32, &str)] = &[
     (&[("b", "a"), ("c", "B"), ("A", "")], 200, 4996, ""),
     (&[("b", "a"), ("c", "B"), ("A", "")], 200, 4997, "too many"),
     (&[], 201, 0, "too many"),
@@ -99,12 +99,18 @@ fn refused(alloc: Global, text: &[u8]) -> Result<String, Fail> {
     }
 }
 
+/// What is refused of the declarations of a row, if anything is.
+fn outcome(alloc: Global, entities: Entities, own: u32, types: u32) -> Result<String, Fail> {
+    let text = text(alloc, entities, own, types)?;
+    refused(alloc, text.as_slice())
+}
+
 #[test]
 fn faults_of_schemas_in_their_order(rt: HostRuntime) -> Result<(), Fail> {
     let alloc = rt.alloc();
     for (entities, own, types, wanted) in SCHEMAS {
-        let text = text(alloc, entities, own, types)?;
-        assert_eq!(rt; refused(alloc, text.as_slice())?.as_str(), wanted);
+        let outcome = outcome(alloc, *entities, *own, *types)?;
+        assert_eq!(rt; outcome.as_str(), *wanted);
     }
     Ok(())
 }

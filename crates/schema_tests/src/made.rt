@@ -65,8 +65,8 @@ fn add_entity(alloc: Global, out: &mut Vec<u8>, number: u32) -> Result<(), Memor
     Ok(())
 }
 
-/// 776 entities in five levels (1, 5, 25, 125 and 620), a supertype before or behind its subtypes.
-pub fn large(alloc: Global) -> Result<Vec<u8>, Memory> {
+/// The text of 776 entities in five levels (1, 5, 25, 125 and 620), a supertype before or behind its subtypes.
+fn large(alloc: Global) -> Result<Vec<u8>, Memory> {
     let mut out = Vec::new(alloc);
     add(alloc, &mut out, "(* Made *) SCHEMA Made;", 0)?;
     for turn in 0..776 {
@@ -76,8 +76,9 @@ pub fn large(alloc: Global) -> Result<Vec<u8>, Memory> {
     Ok(out)
 }
 
-/// What is built of the declarations in this text.
-pub fn built(alloc: Global, text: &[u8]) -> Result<SchemaTable, Fail> {
-    let Decls { entities, types } = read_declarations(alloc, text)?;
+/// What is built of these declarations.
+pub fn large_table(alloc: Global) -> Result<SchemaTable, Fail> {
+    let text = large(alloc)?;
+    let Decls { entities, types } = read_declarations(alloc, text.as_slice())?;
     Ok(SchemaTable::build(alloc, entities, types)?)
 }

@@ -133,8 +133,16 @@ fn attribute(at: &Place, name: Cond, value: Cond, reads: &mut Keys) -> Result<We
     Ok(weigh_attribute(at.alloc, at.schema, at.look, at.elem, &facet, reads)?)
 }
 
-fn property(at: &Place, facet: &PropertyFacet, reads: &mut Keys) -> Result<Weighed, Fail> {
-    Ok(weigh_property(at.alloc, at.schema, at.look, at.elem, facet, reads)?)
+/// The conditions are those on the set name, the name and the value.
+fn property(at: &Place, conds: [Cond; 3], kind: &str, reads: &mut Keys) -> Result<Weighed, Fail> {
+    let [set, name, value] = conds;
+    let facet = PropertyFacet {
+        set: name_condition(at.alloc, set)?,
+        base_name: name_condition(at.alloc, name)?,
+        kind: data_type(at.alloc, kind)?,
+        value: condition(at.alloc, value)?,
+    };
+    Ok(weigh_property(at.alloc, at.schema, at.look, at.elem, &facet, reads)?)
 }
 
 fn classification(
@@ -157,8 +165,14 @@ fn material(at: &Place, value: Cond, reads: &mut Keys) -> Result<Weighed, Fail> 
     Ok(weigh_material(at.alloc, at.schema, at.look, at.elem, &facet, reads)?)
 }
 
-fn part_of(at: &Place, facet: &PartOfFacet, reads: &mut Keys) -> Result<Weighed, Fail> {
-    Ok(weigh_part_of(at.alloc, at.schema, at.look, at.elem, facet, reads)?)
+fn part_of(
+    at: &Place,
+    relation: Relation,
+    entity: Option<EntityFacet>,
+    reads: &mut Keys,
+) -> Result<Weighed, Fail> {
+    let facet = PartOfFacet { relation, entity };
+    Ok(weigh_part_of(at.alloc, at.schema, at.look, at.elem, &facet, reads)?)
 }
 
 /// The entity that is asked for, unless any will do.
@@ -174,25 +188,16 @@ fn weigh(at: &Place, ask: Ask, reads: &mut Keys) -> Result<Weighed, Fail> {
     match ask {
         Ask::Entity(name, kind) => entity(at, name, kind, reads),
         Ask::Attribute(name, value) => attribute(at, name, value, reads),
-        Ask::Property(set, name, kind, value) => {
-            let facet = PropertyFacet {
-                set: name_condition(at.alloc, set)?,
-                base_name: name_condition(at.alloc, name)?,
-                kind: data_type(at.alloc, kind)?,
-                value: condition(at.alloc, value)?,
-            };
-            property(at, &facet, reads)
-        }
+        Ask::Property(set, name, kind, value) => property(at, [set, name, value], kind, reads),
         Ask::Classification(system, value) => classification(at, system, value, reads),
         Ask::Material(value) => material(at, value, reads),
-        Ask::PartOf(relation, name) => {
-            let entity = part_entity(at.alloc, name)?;
-            part_of(at, &PartOfFacet { relation, entity }, reads)
-        }
-        Ask::PartOfKind(relation, name, kind) => {
-            let entity = Some(entity_facet(at.alloc, name, kind)?);
-            part_of(at, &PartOfFacet { relation, entity }, reads)
-        }
+        Ask::PartOf(relation, name) => part_of(at, relation, part_entity(at.alloc, name)?, reads),
+        Ask::PartOfKind(relation, name, kind) => part_of(
+            at,
+            relation,
+            Some(entity_facet(at.alloc, name, kind)?),
+            reads,
+        ),
     }
 }
 

@@ -82,7 +82,12 @@ fn a_set_line_has_name_and_value(rt: HostRuntime) -> Result<(), Fail> {
         rt.alloc(),
         "open\nset #7 Name\t/* a */ 'X y' /* ' */\ncommit\nsync\n",
     )?;
-    let lines = script.phases.as_slice()[0].lines.as_slice();
-    assert!(rt; sets_name(&lines[1].act, "X y"));
+    let Some(phase) = script.phases.as_slice().first() else {
+        return Err("no phase".into());
+    };
+    let Some(line) = phase.lines.as_slice().get(1) else {
+        return Err("no second line".into());
+    };
+    assert!(rt; sets_name(&line.act, "X y"));
     Ok(())
 }

@@ -14,9 +14,8 @@ use Rattle.audit_model.proofs.Commits.{stands_found}
 use Rattle.audit_model.specs.FacetLaws.{Stays}
 use Rattle.audit_model.proofs.Tests.{Each-found}
 use Rattle.model_view.specs.Views.{FindingView}
-use Rattle.audit_core.specs.Cores.{CoreView}
+use Rattle.model_view.specs.Answers.{given_of, IsTrue}
 use Rattle.audit_core.specs.Rows.{found}
-use Rattle.audit_core.specs.Steps.{given_of, IsTrueFinding}
 
 -- where no key is found none passes
 pub none_all : {X : Type 0} (t : X → Bool) (xs : List X) → find t xs ≡ None → list_all (λ x. not (t x)) xs ≡ true
@@ -31,16 +30,16 @@ pub stands_when : (g : Ground) (h : List StepRec) (c : Given) → least_changed 
 stands_when g h c e = none_all (changed_since g h c.revision) (need g.schema g.specs c.pair (model_at g h c.revision)) e
 
 -- a search of the finding's needs is one of the needs of its claim
-pub changed_of : {core : CoreView} {actor : ℕ} {f : FindingView} → IsTrueFinding core actor f → least_changed core.ground core.history (given_of actor f.claim) ≡ find (changed_since core.ground core.history f.claim.snapshot.revision) f.needs
-changed_of {core = core} {f = f} t = ap (λ (ks : List Key). find (changed_since core.ground core.history f.claim.snapshot.revision) ks) (rw (← t.snapshot_is) (sym t.needs_are))
+pub changed_of : {g : Ground} {h : List StepRec} {actor : ℕ} {f : FindingView} → IsTrue g h actor f → least_changed g h (given_of actor f.claim) ≡ find (changed_since g h f.claim.snapshot.revision) f.needs
+changed_of {g = g} {h = h} {f = f} t = ap (λ (ks : List Key). find (changed_since g h f.claim.snapshot.revision) ks) (rw (← t.snapshot_is) (sym t.finds.needs_are))
 
-pub stale_of : {core : CoreView} {actor : ℕ} {f : FindingView} (k : Key) → IsTrueFinding core actor f → find (changed_since core.ground core.history f.claim.snapshot.revision) f.needs ≡ Some k → Stale k (last_change core.ground core.history k) ≡ deliver_reply core.ground core.history (given_of actor f.claim)
+pub stale_of : {g : Ground} {h : List StepRec} {actor : ℕ} {f : FindingView} (k : Key) → IsTrue g h actor f → find (changed_since g h f.claim.snapshot.revision) f.needs ≡ Some k → Stale k (last_change g h k) ≡ deliver_reply g h (given_of actor f.claim)
 stale_of k t e = rw (changed_of t ∙ e)
 
-pub found_now : {core : CoreView} {actor : ℕ} {f : FindingView} → Legal core.ground core.history → IsTrueFinding core actor f → least_changed core.ground core.history (given_of actor f.claim) ≡ None → record { verdict = f.verdict; needs = f.needs } ≡ found core.ground.schema core.ground.specs (current core.ground core.history) f.claim.pair
-found_now {core = core} {actor = actor} {f = f} l t none =
-    let sound : IsSound core.ground (commits core.history) (given_of actor f.claim) = Each-found (IsSound core.ground (commits core.history)) (λ c. c.number == f.claim.number) (out core.history) (given_of actor f.claim) (sound_out core.ground core.history l) t.is_out in
-    let stays : Stays core.ground.schema core.ground.specs f.claim.pair (model_of core.ground (commits core.history) f.claim.snapshot.revision) (model_after core.ground (commits core.history)) = stands_found core.ground (commits core.history) (given_of actor f.claim) sound.early (stands_when core.ground core.history (given_of actor f.claim) none) in
-    let v : f.verdict ≡ verdict core.ground.schema core.ground.specs f.claim.pair (current core.ground core.history) = t.verdict_is ∙ ap (λ m. verdict core.ground.schema core.ground.specs f.claim.pair m) t.snapshot_is ∙ sym stays.verdict_stays in
-    let n : f.needs ≡ need core.ground.schema core.ground.specs f.claim.pair (current core.ground core.history) = t.needs_are ∙ ap (λ m. need core.ground.schema core.ground.specs f.claim.pair m) t.snapshot_is ∙ sym stays.need_stays in
+pub found_now : {g : Ground} {h : List StepRec} {actor : ℕ} {f : FindingView} → Legal g h → IsTrue g h actor f → least_changed g h (given_of actor f.claim) ≡ None → record { verdict = f.verdict; needs = f.needs } ≡ found g.schema g.specs (current g h) f.claim.pair
+found_now {g = g} {h = h} {actor = actor} {f = f} l t none =
+    let sound : IsSound g (commits h) (given_of actor f.claim) = Each-found (IsSound g (commits h)) (λ c. c.number == f.claim.number) (out h) (given_of actor f.claim) (sound_out g h l) t.is_out in
+    let stays : Stays g.schema g.specs f.claim.pair (model_of g (commits h) f.claim.snapshot.revision) (model_after g (commits h)) = stands_found g (commits h) (given_of actor f.claim) sound.early (stands_when g h (given_of actor f.claim) none) in
+    let v : f.verdict ≡ verdict g.schema g.specs f.claim.pair (current g h) = t.finds.verdict_is ∙ ap (λ m. verdict g.schema g.specs f.claim.pair m) t.snapshot_is ∙ sym stays.verdict_stays in
+    let n : f.needs ≡ need g.schema g.specs f.claim.pair (current g h) = t.finds.needs_are ∙ ap (λ m. need g.schema g.specs f.claim.pair m) t.snapshot_is ∙ sym stays.need_stays in
     λ i. record { verdict = v i; needs = n i }

@@ -1,5 +1,5 @@
 -- What preparing a commit makes, and what finishing it asks.
-use Rattle.std.specs.Prelude.{◌≡◌, Bool, true, false, ℕ, ◌+◌, ◌≤◌, List, Some, None, map, if◌then◌else◌}
+use Rattle.std.specs.Prelude.{◌≡◌, true, false, ℕ, ◌+◌, ◌≤◌, List, Some, None, map, if◌then◌else◌}
 use Rattle.std.specs.List.{list_any}
 use Rattle.std.specs.FinMap.{FinMap}
 use Rattle.std.specs.Ordering.{nat_cmp}
@@ -78,9 +78,3 @@ IsNotPrepared old new actor draft (unprepared.Refused why back) =
     Adds old new (record { actor = actor; call = Commit draft.base.revision draft.edits; reply = Refused why }) × (is_full old.ground old.history 1 ≡ false) × (back ≡ draft)
 IsNotPrepared old new actor draft (unprepared.Full back) = Unchanged old new × (is_full old.ground old.history 1 ≡ true) × (back ≡ draft)
 IsNotPrepared old new actor draft (unprepared.Memory back) = Unchanged old new × (back ≡ draft)
-
--- the answer says that there is no room
-abbrev pub gives_full : NotPrepared → Bool
-gives_full (unprepared.Refused why back) = false
-gives_full (unprepared.Full back) = true
-gives_full (unprepared.Memory back) = false

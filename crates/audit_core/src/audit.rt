@@ -1,15 +1,15 @@
 ghost use Rattle.std.specs.Prelude.{◌≡◌, ◌≤◌, ◌<◌, ◌^◌, false, None, Some, [], length, reverse, find, IfOk, IfErr, OnOk};
 ghost use Rattle.audit_model.specs.Models.{IsModel, model_of_file};
 ghost use Rattle.ifc_base.specs.Ids.{HasDistinctIds};
-ghost use Rattle.audit_model.specs.Specifications.{AreBuilt, AreSpecifications};
+ghost use Rattle.audit_model.specs.Specifications.{AreSpecifications};
 ghost use Rattle.audit_model.specs.Scratch.{scratch};
 ghost use Rattle.audit_model.specs.History.{changed_since, current, last_change};
 ghost use Rattle.audit_model.specs.Machine.{is_full, least_claimable, least_unsettled, Legal, MayFollow, pairs_now};
 ghost use Rattle.ifc_base.specs.Refusals.{OnFault};
-ghost use Rattle.audit_core.specs.Cores.{IsNow};
+ghost use Rattle.model_view.specs.Answers.{claim_told, delivery_told, publish_told, tells_full};
+ghost use Rattle.model_view.specs.Answers.{IfGiven, IsAudit, IsNow, IsOut, IsTrue};
 ghost use Rattle.audit_core.specs.Fitting.{model_fault};
-ghost use Rattle.audit_core.specs.Steps.{claim_told, delivery_told, publish_told, tells_full};
-ghost use Rattle.audit_core.specs.Steps.{Adds, IfGiven, IsAudit, IsClaimOf, IsHalted, IsOut, IsTrueFinding, IsUse, Unchanged};
+ghost use Rattle.audit_core.specs.Steps.{Adds, IsClaimOf, IsHalted, IsUse, Unchanged};
 
 mod commit;
 
@@ -74,9 +74,8 @@ impl<'a> Model for Core<'a> {
 impl<'a> Core<'a> {
     /// A core over the model of this file, without entries. It refuses a file of another schema than
     /// `IFC4`; else, if an instance doesn't fit the schema, it tells the least id of such a one, and why.
-    /// The ids of the instances have to be distinct, there may be at most `limits.instances` of them, and
-    /// of the specifications each facet has to be of a kind whose evaluation is built. Besides, it may
-    /// refuse for want of memory.
+    /// The ids of the instances have to be distinct, and there may be at most `limits.instances` of them.
+    /// Besides, it may refuse for want of memory.
     /// `O(n log n + s * n)` for `n` instances and `s` specifications.
     pub fn new(
         alloc: Global,
@@ -88,7 +87,6 @@ impl<'a> Core<'a> {
         requires distinct { HasDistinctIds file.instances }
         requires few { length file.instances ≤ limits.instances }
         requires specifications { AreSpecifications specs.now }
-        requires built { AreBuilt specs.now }
         ensures ground { IfOk result
             (λ core. core.ground ≡ record { schema = schema.now; specs = specs.now; first = model_of_file file.instances; limits = limits }) }
         ensures history { IfOk result (λ core. core.history ≡ []) }
@@ -213,7 +211,7 @@ impl<'a> Core<'a> {
     pub fn claim(&mut self, actor: u32) -> Result<Claimed, Halt>
         ensures ok { IfOk result (λ told. Adds self.old self.new
             (record { actor = actor; call = Call.Claim; reply = claim_told told })) }
-        ensures given { IfOk result (λ told. IfGiven self.old self.new actor told) }
+        ensures given { IfOk result (λ told. IfGiven self.old.ground self.old.history self.new.history actor told) }
         ensures not_full { OnOk result (is_full self.old.ground self.old.history 2 ≡ false) }
         ensures halted { IfErr result (λ why. IsHalted self.old self.new 2 why) }
         ensures full { IfErr result (λ why. is_full self.old.ground self.old.history 2 ≡ tells_full why) }
@@ -249,7 +247,7 @@ impl<'a> Core<'a> {
         requires least { least_claimable self.old.ground self.old.history ≡ Some pair.now }
         ensures ok { IfOk result (λ told. Adds self.old self.new
             (record { actor = actor; call = Call.Claim; reply = claim_told told })) }
-        ensures given { IfOk result (λ told. IfGiven self.old self.new actor told) }
+        ensures given { IfOk result (λ told. IfGiven self.old.ground self.old.history self.new.history actor told) }
         ensures halted { IfErr result (λ why. IsHalted self.old self.new 2 why) }
         ensures full { IfErr result (λ why. is_full self.old.ground self.old.history 2 ≡ tells_full why) }
     {
@@ -297,7 +295,7 @@ impl<'a> Core<'a> {
     /// Takes a claim back, whose pair is then unsettled as before. It has to be out, and this actor's.
     /// It takes no memory and is never full. `O(c + log n)` for `c` claims that are out and `n` pairs.
     pub fn give_back(&mut self, actor: u32, claim: Claim)
-        requires { IsOut self.old actor claim }
+        requires { IsOut self.old.history actor claim }
         ensures { Adds self.old self.new
             (record { actor = actor; call = Call.GiveBack claim.number; reply = Reply.Back }) }
     {
@@ -319,7 +317,7 @@ impl<'a> Core<'a> {
     /// needs those of the definitions there. It is never full. At `Err` the finding comes back and the
     /// core is as before. `O(c + k log n)` for `c` claims that are out and `k` needed keys.
     pub fn deliver(&mut self, actor: u32, finding: Finding) -> Result<Delivered, (Memory, Finding)>
-        requires { IsTrueFinding self.old actor finding }
+        requires { IsTrue self.old.ground self.old.history actor finding }
         ensures ok { IfOk result (λ told. Adds self.old self.new
             (record { actor = actor; call = Call.Deliver finding.claim.number; reply = delivery_told told })) }
         ensures back { IfErr result (λ back. Unchanged self.old self.new × (back.1 ≡ finding)) }
@@ -403,7 +401,7 @@ impl<'a> Core<'a> {
     pub fn publish(&mut self, alloc: Global, actor: u32) -> Result<Published, Halt>
         ensures ok { IfOk result (λ told. Adds self.old self.new
             (record { actor = actor; call = Call.Publish; reply = publish_told told })) }
-        ensures report { IfOk result (λ told. IsAudit self.old told) }
+        ensures report { IfOk result (λ told. IsAudit self.old.ground self.old.history told) }
         ensures not_full { OnOk result (is_full self.old.ground self.old.history 1 ≡ false) }
         ensures halted { IfErr result (λ why. IsHalted self.old self.new 1 why) }
         ensures full { IfErr result (λ why. is_full self.old.ground self.old.history 1 ≡ tells_full why) }
@@ -440,7 +438,7 @@ impl<'a> Core<'a> {
         requires none { least_unsettled self.old.ground self.old.history ≡ None }
         ensures ok { IfOk result (λ told. Adds self.old self.new
             (record { actor = actor; call = Call.Publish; reply = publish_told told })) }
-        ensures report { IfOk result (λ told. IsAudit self.old told) }
+        ensures report { IfOk result (λ told. IsAudit self.old.ground self.old.history told) }
         ensures halted { IfErr result (λ why. IsHalted self.old self.new 1 why) }
         ensures full { IfErr result (λ why. is_full self.old.ground self.old.history 1 ≡ tells_full why) }
     {

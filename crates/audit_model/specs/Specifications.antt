@@ -1,5 +1,5 @@
--- What is asked of a list of specifications (IDS 1.0), and which kinds of facet are built.
-use Rattle.std.specs.Prelude.{◌≡◌, ℕ, ◌≤◌, Bool, true, false, not, ◌&&◌, List, [], ◌∷◌, length, count_by, is_none}
+-- What is asked of a list of specifications (IDS 1.0).
+use Rattle.std.specs.Prelude.{◌≡◌, ℕ, ◌≤◌, Bool, true, false, not, ◌&&◌, List, [], ◌∷◌, length, count_by}
 use Rattle.std.specs.List.{list_all}
 use Rattle.audit_model.specs.declared.facet.Facet.{Facet}
 use Rattle.audit_model.specs.declared.facet.Facet.TheVariants.{Entity, PartOf}
@@ -46,16 +46,3 @@ pub record AreSpecifications (specs : List Specification) : Type 0 where
   pub numbered : NumberedFrom 1 specs
   pub few : length specs ≤ 1000
   pub each : EachIsSpecification specs
-
--- Evaluation of the facet is built: of entity facets without a predefined type so far.
-abbrev pub is_built : Facet → Bool
-is_built (Entity f) = is_none f.predefined
-is_built _ = false
-
--- each facet of the specification is built
-abbrev pub is_built_specification : Specification → Bool
-is_built_specification q = list_all is_built q.applicability && list_all (λ r. is_built r.facet) q.requirements
-
--- each facet of all of them is built
-abbrev pub AreBuilt : List Specification → Type 0
-AreBuilt specs = list_all is_built_specification specs ≡ true

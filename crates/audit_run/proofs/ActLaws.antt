@@ -12,9 +12,10 @@ use Rattle.audit_model.specs.ScriptLines.{entry}
 use Rattle.model_view.specs.Views.{ClaimView, DraftView, SnapshotView}
 use Rattle.model_view.specs.declared.answers.NotPrepared.{NotPrepared}
 use Rattle.model_view.specs.declared.answers.NotPrepared.TheVariants as unprepared
-use Rattle.audit_core.specs.Cores.{CoreView, IsNow}
+use Rattle.model_view.specs.Answers.{IsNow, IsOut, IsGiven, given_of}
+use Rattle.audit_core.specs.Cores.{CoreView}
 use Rattle.audit_core.specs.Commits.{IsNotPrepared}
-use Rattle.audit_core.specs.Steps.{Adds, Unchanged, IsOut, IsGiven, given_of}
+use Rattle.audit_core.specs.Steps.{Adds, Unchanged}
 use Rattle.audit_run.specs.declared.calls.Act.TheVariants as act
 use Rattle.audit_run.specs.declared.calls.Asked.{Asked}
 use Rattle.audit_run.specs.declared.hands.Begun.{Begun}
@@ -68,7 +69,7 @@ commit_not_done old new hands actor draft (unprepared.Memory back) e n = commit_
 
 -- Claims.
 
-pub take_done : {old new : CoreView} (hands : HandsView) (actor : ℕ) (claim : ClaimView) → is_full old.ground old.history 2 ≡ false → Adds old new (entry actor call.Claim (reply.Claimed claim.number claim.pair claim.snapshot.revision)) → IsGiven old new actor claim →
+pub take_done : {old new : CoreView} (hands : HandsView) (actor : ℕ) (claim : ClaimView) → is_full old.ground old.history 2 ≡ false → Adds old new (entry actor call.Claim (reply.Claimed claim.number claim.pair claim.snapshot.revision)) → IsGiven old.ground old.history new.history actor claim →
     Does old.ground actor act.Take old.history hands new.history (record { drafts = hands.drafts; claims = hands.claims ++ taken_as actor claim ∷ [] })
 take_done {old = old} hands actor claim f a given =
     inr (
@@ -109,7 +110,7 @@ give_back_done {old = old} {new = new} hands actor number claim e n a =
 its_claim : (h : List StepRec) (n m : ℕ) (c d : Given) → n ≡ m → claim_numbered n (out h) ≡ Some c → claim_numbered m (out h) ≡ Some d → c ≡ d
 its_claim h n m c d e p q = let same : claim_numbered n (out h) ≡ claim_numbered m (out h) = ap (λ k. claim_numbered k (out h)) e in cc
 
-pub give_done : {old new : CoreView} (hands : HandsView) (actor number : ℕ) (claim : ClaimView) (told : Reply) → Some (taken_as actor claim) ≡ claim_of actor hands.claims → number ≡ claim.number → IsOut old actor claim → Adds old new (entry actor (call.Deliver number) told) →
+pub give_done : {old new : CoreView} (hands : HandsView) (actor number : ℕ) (claim : ClaimView) (told : Reply) → Some (taken_as actor claim) ≡ claim_of actor hands.claims → number ≡ claim.number → IsOut old.history actor claim → Adds old new (entry actor (call.Deliver number) told) →
     Does old.ground actor act.Give old.history hands new.history (spent actor hands)
 give_done {old = old} {new = new} hands actor number claim told e n o a =
     let same : a.lawful.0 ≡ given_of actor claim = its_claim old.history number claim.number a.lawful.0 (given_of actor claim) n a.lawful.1.is_held o in

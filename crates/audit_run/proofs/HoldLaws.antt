@@ -21,8 +21,7 @@ use Rattle.audit_model.proofs.Numbers.{out_numbers, claim_number}
 use Rattle.audit_model.proofs.RunLegal.{revision_grows}
 use Rattle.audit_model.proofs.Tests.{Each, Each-found, or_true, Each-all}
 use Rattle.model_view.specs.Views.{ClaimView}
-use Rattle.audit_core.specs.Cores.{IsNow}
-use Rattle.audit_core.specs.Steps.{given_of}
+use Rattle.model_view.specs.Answers.{given_of, IsNow}
 use Rattle.audit_run.specs.declared.hands.Begun.{Begun}
 use Rattle.audit_run.specs.declared.hands.Taken.{Taken}
 use Rattle.audit_run.specs.Holding.{IsTaken, AreTaken, AreLater, AreBegun, is_began, begins, has_begun, begun_on, taken_as, drafted_by, taken_by, draft_of, other_drafts, claim_of, other_claims}
@@ -40,7 +39,11 @@ known g h t l k = Each-found (λ (c : Given). c.number ≤ given h) (λ c. c.num
 still_taken : (g : Ground) (h : List StepRec) (e : StepRec) (t : Taken) → Legal g h → (claim_numbered t.claim.number (out h) ≡ Some (given_of t.actor t.claim) → claim_numbered t.claim.number (out (e ∷ h)) ≡ Some (given_of t.actor t.claim)) → IsTaken g h t → IsTaken g (e ∷ h) t
 still_taken g h e t l keeps k = record {
   is_out = keeps k.is_out;
-  snapshot_is = k.snapshot_is ∙ sym (earlier_models_stay g (e ∷ []) h t.claim.snapshot.revision (early g h t l k));
+  snapshot_is = record {
+    model = k.snapshot_is.model ∙ sym (earlier_models_stay g (e ∷ []) h t.claim.snapshot.revision (early g h t l k));
+    revision = refl;
+    index = k.snapshot_is.index;
+  };
 }
 
 -- the entry leaves this claim out, if it is
@@ -83,7 +86,7 @@ taken_more g h ts actor c l m now o k =
     let next : c.number ≡ given h + 1 = claim_number (least_claimable g h) (given h + 1) c.number c.snapshot.revision (revision h) c.pair m in
     taken_push g (e ∷ h) (given h) ts (record { actor = actor; claim = c }) (all_known g h ts l k) (omega (arith, next))
     (all_taken g h e ts l (Each-all (LeavesOut h e) (claimed_leaves h actor c.number c.snapshot.revision c.pair) ts) k)
-    (record { is_out = o; snapshot_is = rw (now.model, now.revision) (sym (model_of-last g (commits h))) })
+    (record { is_out = o; snapshot_is = record { model = rw (now.model, now.revision) (sym (model_of-last g (commits h))); revision = refl; index = now.index } })
 
 -- Ended claims.
 

@@ -2,4 +2,3 @@ pub mod ActLaws
 pub mod Firsts
 pub mod HoldLaws
 pub mod PlayLaws
-pub mod PlainLaws

@@ -7,9 +7,11 @@ use Rattle.audit_model.specs.declared.step.StepRec.{StepRec}
 use Rattle.audit_model.specs.declared.step.Call.TheVariants as call
 use Rattle.audit_model.specs.declared.step.Reply.{Reply}
 use Rattle.audit_model.specs.declared.step.Reply.TheVariants as reply
-use Rattle.audit_model.specs.History.{revision, out, claim_numbered}
+use Rattle.audit_model.specs.History.{Ground, revision, out, claim_numbered}
 use Rattle.audit_model.specs.Machine.{Legal, MayFollow}
 use Rattle.audit_model.proofs.Tests.{Each, Each-all, Each-weaker}
+use Rattle.model_view.specs.Findings.{IsFindingOf}
+use Rattle.model_view.specs.Answers.{given_of, delivery_told, IsGiven, IsTrue}
 use Rattle.model_view.specs.Views.{ClaimView, DraftView, FindingView, SnapshotView}
 use Rattle.model_view.specs.declared.answers.NotPrepared.{NotPrepared}
 use Rattle.model_view.specs.declared.answers.NotPrepared.TheVariants as unprepared
@@ -19,13 +21,13 @@ use Rattle.audit_core.specs.Cores.{CoreView}
 use Rattle.audit_core.specs.Commits.{IsNotPrepared}
 use Rattle.model_view.specs.declared.answers.Halt.{Halt}
 use Rattle.model_view.specs.declared.answers.Halt.TheVariants as halt
-use Rattle.audit_core.specs.Steps.{Adds, Unchanged, IsHalted, given_of, delivery_told, IsGiven, IsTrueFinding}
+use Rattle.audit_core.specs.Steps.{Adds, Unchanged, IsHalted}
 use Rattle.audit_run.specs.declared.hands.Begun.{Begun}
 use Rattle.audit_run.specs.declared.hands.Taken.{Taken}
 use Rattle.audit_run.specs.declared.calls.Act.{Act}
 use Rattle.audit_run.specs.declared.calls.Act.TheVariants as act
 use Rattle.audit_run.specs.declared.calls.Asked.{Asked}
-use Rattle.audit_run.specs.Holding.{HandsView, IsTaken, AreTaken, AreBegun, begins, has_begun, taken_as, claim_of, other_claims, IsFindingOf}
+use Rattle.audit_run.specs.Holding.{HandsView, IsTaken, AreTaken, AreBegun, begins, has_begun, taken_as, claim_of, other_claims}
 use Rattle.audit_run.specs.Runs.{IsCallOf, IsEntryOf, IsStep, IsRun, reported, reports, IsHolding, IsPlayed, IsPlay}
 use Rattle.audit_run.proofs.HoldLaws.{LeavesOut, Differs, AreParted, all_taken, taken_more, delivery_leaves, return_leaves, parted_first, begun_more, begun_push}
 
@@ -95,7 +97,7 @@ not_committed {hands = hands} actor draft drafts (unprepared.Memory back) k n b 
 
 -- Taking.
 
-pub took : {old new : CoreView} {hands : HandsView} (actor : ℕ) (claim : ClaimView) → IsHolding old hands → Adds old new (record { actor = actor; call = call.Claim; reply = reply.Claimed claim.number claim.pair claim.snapshot.revision }) → IsGiven old new actor claim →
+pub took : {old new : CoreView} {hands : HandsView} (actor : ℕ) (claim : ClaimView) → IsHolding old hands → Adds old new (record { actor = actor; call = call.Claim; reply = reply.Claimed claim.number claim.pair claim.snapshot.revision }) → IsGiven old.ground old.history new.history actor claim →
     IsPlayed old new (record { drafts = hands.drafts; claims = hands.claims ++ record { actor = actor; claim = claim } ∷ [] }) (record { actor = actor; act = act.Take }) []
 took {old = old} {hands = hands} actor claim k a given =
     let e : StepRec = record { actor = actor; call = call.Claim; reply = reply.Claimed claim.number claim.pair claim.snapshot.revision } in
@@ -117,12 +119,11 @@ idle {old = old} {hands = hands} actor k a =
 pub out_of : {core : CoreView} {hands : HandsView} {actor : ℕ} {claim : ClaimView} {rest : List Taken} → IsHolding core hands → Some (taken_as actor claim) ≡ claim_of actor hands.claims → rest ≡ other_claims actor hands.claims → AreParted core.ground core.history (taken_as actor claim) rest
 out_of {core = core} {hands = hands} {actor = actor} {claim = claim} k e r = rw r (parted_first core.ground core.history actor hands.claims (taken_as actor claim) (sym e) k.claims)
 
-pub true_finding : {core : CoreView} {actor : ℕ} {claim : ClaimView} {finding : FindingView} → IsTaken core.ground core.history (record { actor = actor; claim = claim }) → IsFindingOf core.ground.schema core.ground.specs claim finding → IsTrueFinding core actor finding
+pub true_finding : {g : Ground} {h : List StepRec} {actor : ℕ} {claim : ClaimView} {finding : FindingView} → IsTaken g h (record { actor = actor; claim = claim }) → IsFindingOf g.schema g.specs claim finding → IsTrue g h actor finding
 true_finding k f = record {
   is_out = rw f.claim_is k.is_out;
-  snapshot_is = rw f.claim_is k.snapshot_is;
-  verdict_is = rw f.claim_is f.verdict_is;
-  needs_are = rw f.claim_is f.needs_are;
+  snapshot_is = rw f.claim_is k.snapshot_is.model;
+  finds = record { claim_is = refl; verdict_is = rw f.claim_is f.verdict_is; needs_are = rw f.claim_is f.needs_are };
 }
 
 pub gave : {old new : CoreView} {hands : HandsView} (actor number : ℕ) (claim : ClaimView) (told : Delivered) (rest : List Taken) → IsHolding old hands → AreParted old.ground old.history (record { actor = actor; claim = claim }) rest → number ≡ claim.number →

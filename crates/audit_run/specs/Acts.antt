@@ -10,8 +10,7 @@ use Rattle.audit_model.specs.History.{Ground, revision}
 use Rattle.audit_model.specs.Machine.{claim_reply, commit_reply, deliver_reply, publish_reply, is_full}
 use Rattle.audit_model.specs.ScriptLines.{entry}
 use Rattle.model_view.specs.Views.{ClaimView, SnapshotView}
-use Rattle.audit_core.specs.Cores.{IsNow}
-use Rattle.audit_core.specs.Steps.{given_of}
+use Rattle.model_view.specs.Answers.{given_of, IsNow}
 use Rattle.audit_run.specs.declared.calls.Act.{Act}
 use Rattle.audit_run.specs.declared.calls.Act.TheVariants as act
 use Rattle.audit_run.specs.declared.calls.Asked.{Asked}

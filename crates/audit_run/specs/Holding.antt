@@ -1,28 +1,24 @@
 -- What actors hold between their calls.
-use Rattle.std.specs.Prelude.{◌≡◌, ℕ, ◌<◌, Bool, true, false, ◌&&◌, ◌==◌, List, [], ◌∷◌, ◌++◌, length, nat_lt, Option, Some, find}
+use Rattle.std.specs.Prelude.{◌≡◌, ℕ, ◌<◌, Bool, true, false, ◌&&◌, ◌==◌, List, [], ◌∷◌, ◌++◌, Option, find}
 use Rattle.std.specs.List.{list_any, before_first, after_first}
-use Rattle.schema_table.specs.Schema.{Schema}
-use Rattle.audit_model.specs.declared.specification.Specification.{Specification}
-use Rattle.audit_model.specs.Needs.{need}
-use Rattle.audit_model.specs.Verdicts.{verdict}
 use Rattle.audit_model.specs.declared.step.StepRec.{StepRec}
 use Rattle.audit_model.specs.declared.step.Reply.{Reply}
 use Rattle.audit_model.specs.declared.step.Reply.TheVariants.{Began}
-use Rattle.audit_model.specs.History.{Ground, model_at, out, claim_numbered}
-use Rattle.model_view.specs.Views.{ClaimView, FindingView, SnapshotView}
+use Rattle.audit_model.specs.History.{Ground, model_at}
+use Rattle.model_view.specs.Views.{ClaimView, IsSnapshotOf, SnapshotView}
+use Rattle.model_view.specs.Answers.{IsOut}
 use Rattle.audit_run.specs.declared.hands.Begun.{Begun}
 use Rattle.audit_run.specs.declared.hands.Taken.{Taken}
-use Rattle.audit_core.specs.Steps.{given_of}
 
 -- what contracts see of hands: the snapshots on which drafts were begun, and the claims that were taken, each with its actor
 pub record HandsView : Type 0 where
   pub drafts : List Begun
   pub claims : List Taken
 
--- After the history h the claim is out, and its snapshot is the model of its revision.
+-- After the history h the claim is out, and its snapshot is one of the model of its revision.
 pub record IsTaken (g : Ground) (h : List StepRec) (taken : Taken) : Type 0 where
-  pub is_out : claim_numbered taken.claim.number (out h) ≡ Some (given_of taken.actor taken.claim)
-  pub snapshot_is : taken.claim.snapshot.model ≡ model_at g h taken.claim.snapshot.revision
+  pub is_out : IsOut h taken.actor taken.claim
+  pub snapshot_is : IsSnapshotOf g.schema (model_at g h taken.claim.snapshot.revision) taken.claim.snapshot.revision taken.claim.snapshot
 
 -- these claims have greater numbers
 abbrev pub AreLater : ℕ → List Taken → Type 0
@@ -82,9 +78,3 @@ claim_of actor ts = find (taken_by actor) ts
 
 abbrev pub other_claims : ℕ → List Taken → List Taken
 other_claims actor ts = without_first (taken_by actor) ts
-
--- the verdict and needs of the claim's pair at its snapshot
-pub record IsFindingOf (s : Schema) (specs : List Specification) (claim : ClaimView) (finding : FindingView) : Type 0 where
-  pub claim_is : finding.claim ≡ claim
-  pub verdict_is : finding.verdict ≡ verdict s specs claim.pair claim.snapshot.model
-  pub needs_are : finding.needs ≡ need s specs claim.pair claim.snapshot.model

@@ -1,4 +1,3 @@
 pub mod Acts
 pub mod Holding
 pub mod Runs
-pub mod Plain

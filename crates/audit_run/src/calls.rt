@@ -1,16 +1,15 @@
-ghost use Rattle.std.specs.Prelude.{◌≡◌, [], ◌∷◌, ◌++◌, List, ℕ, map, IfOk, IfErr};
-ghost use Rattle.audit_model.specs.declared.specification.Specification.{Specification};
+ghost use Rattle.std.specs.Prelude.{◌≡◌, [], ◌∷◌, ◌++◌, List, ℕ, map};
 ghost use Rattle.audit_model.specs.declared.step.Call.TheVariants as call;
 ghost use Rattle.audit_model.specs.Machine.{Legal};
+ghost use Rattle.audit_model.specs.Specifications.{AreSpecifications};
 ghost use Rattle.audit_run.specs.Acts.{DoAll, Does};
-ghost use Rattle.audit_run.specs.Holding.{AreTaken, IsFindingOf, IsTaken};
+ghost use Rattle.audit_run.specs.Holding.{AreTaken, IsTaken};
 ghost use Rattle.audit_run.specs.Runs.{return_of, IsHolding, IsPlay, IsPlayed, reports};
 
 use crate::hands::{Begun, Hands, Taken, end_draft, take_base, take_claim};
 use audit_core::Core;
 use audit_model::{Edits, ReportText};
-use ifc_base::Memory;
-use model_view::{Claim, Claimed, Draft, Finding, Published};
+use model_view::{Assess, Claimed, Draft, Published};
 use std::alloc::Global;
 
 /// What an actor is to do.
@@ -36,23 +35,6 @@ pub enum Act {
 pub struct Asked {
     pub actor: u32,
     pub act: Act,
-}
-
-/// What evaluates claims. Its meaning are a schema and specifications.
-pub trait Evaluate {
-    ghost use Rattle.std.specs.Prelude.{List};
-    ghost use Rattle.schema_table.specs.Schema.{Schema};
-    ghost use Rattle.audit_model.specs.declared.specification.Specification.{Specification};
-
-    ghost schema: { Self → Schema };
-
-    ghost specs: { Self → List Specification };
-
-    /// The finding of a claim: the verdict and the needs of its pair at its snapshot. At `Err` the claim
-    /// comes back.
-    fn evaluate(&self, alloc: Global, claim: Claim) -> Result<Finding, (Memory, Claim)>
-        ensures ok { IfOk result (λ finding. IsFindingOf (schema self.now) (specs self.now) claim finding) }
-        ensures back { IfErr result (λ back. back.1 ≡ claim) };
 }
 
 /// Begins a draft.
@@ -104,17 +86,18 @@ fn take(core: &mut Core, hands: &mut Hands, actor: u32)
 }
 
 /// Evaluates the first claim of the actor, if it has one, and delivers what was found.
-fn give<E: Evaluate>(alloc: Global, core: &mut Core, evaluator: &E, hands: &mut Hands, actor: u32)
+fn give<E: Assess>(alloc: Global, core: &mut Core, evaluator: &E, hands: &mut Hands, actor: u32)
     requires holding { IsHolding core.old hands.old }
     requires schema { E.schema evaluator.now ≡ core.old.ground.schema }
     requires specs { E.specs evaluator.now ≡ core.old.ground.specs }
+    requires specifications { AreSpecifications (E.specs evaluator.now) }
     ensures play { IsPlayed core.old core.new hands.new (record { actor = actor; act = Act.Give }) [] }
     ensures acts { Does core.old.ground actor Act.Give core.old.history hands.old core.new.history hands.new }
 {
     let Some(claim) = take_claim(&mut hands.claims, actor) else {
         return;
     };
-    match evaluator.evaluate(alloc, claim) {
+    match evaluator.assess(alloc, claim) {
         Ok(finding) => match core.deliver(actor, finding) {
             Ok(_) => {}
             Err((_, finding)) => core.give_back(actor, finding.into_claim()),
@@ -153,7 +136,7 @@ fn publish(alloc: Global, core: &mut Core, hands: &Hands, actor: u32, texts: &mu
 }
 
 /// Makes one call.
-fn step<E: Evaluate>(
+fn step<E: Assess>(
     alloc: Global,
     core: &mut Core,
     evaluator: &E,
@@ -164,6 +147,7 @@ fn step<E: Evaluate>(
     requires holding { IsHolding core.old hands.old }
     requires schema { E.schema evaluator.now ≡ core.old.ground.schema }
     requires specs { E.specs evaluator.now ≡ core.old.ground.specs }
+    requires specifications { AreSpecifications (E.specs evaluator.now) }
     ensures play { (told : List (List ℕ)) × ((texts.new.items ≡ texts.old.items ++ told)
         × IsPlayed core.old core.new hands.new asked told) }
     ensures acts { Does core.old.ground asked.actor asked.act core.old.history hands.old core.new.history hands.new }
@@ -187,7 +171,7 @@ fn step<E: Evaluate>(
 /// order and at most one for each; and the texts are, report by report and byte for byte, the audits
 /// from scratch of the revisions that the new entries name. `Give` and `Return` add an entry wherever
 /// their actor holds a claim, the first of which then ends.
-pub fn run<E: Evaluate>(
+pub fn run<E: Assess>(
     alloc: Global,
     core: &mut Core,
     evaluator: &E,
@@ -197,6 +181,7 @@ pub fn run<E: Evaluate>(
     requires holding { IsHolding core.old hands.old }
     requires schema { E.schema evaluator.now ≡ core.old.ground.schema }
     requires specs { E.specs evaluator.now ≡ core.old.ground.specs }
+    requires specifications { AreSpecifications (E.specs evaluator.now) }
     ensures play { IsPlay core.old core.new hands.new calls.items result.items }
     ensures acts { DoAll core.old.ground calls.items core.old.history hands.old core.new.history hands.new }
 {

@@ -5,8 +5,6 @@
 
 mod calls;
 mod hands;
-mod plain;
 
-pub use calls::{Act, Asked, Evaluate, give_all_back, run};
+pub use calls::{Act, Asked, give_all_back, run};
 pub use hands::{Begun, Hands, Taken};
-pub use plain::PlainEvaluator;

@@ -1,6 +1,6 @@
 ghost use Rattle.std.specs.Prelude.{◌≡◌, true, None, length, IfOk};
 ghost use Rattle.ifc_base.specs.Ids.{HasDistinctIds};
-ghost use Rattle.audit_model.specs.Specifications.{AreBuilt, AreSpecifications, IsSpecification, is_built_specification};
+ghost use Rattle.audit_model.specs.Specifications.{AreSpecifications, IsSpecification};
 
 use audit_model::{
     Cardinality, EntityFacet, Facet, Facets, Occurs, Requirement, Requirements, Specification,
@@ -96,9 +96,7 @@ pub fn schema(alloc: Global) -> Result<SchemaTable, Fail> {
 }
 
 /// The entity facet of this one name.
-fn is_entity(alloc: Global, name: &str) -> Result<EntityFacet, Memory>
-    ensures { IfOk result (λ facet. facet.predefined ≡ None) }
-{
+fn is_entity(alloc: Global, name: &str) -> Result<EntityFacet, Memory> {
     let name = Name::from_str(alloc, name)?;
     Ok(EntityFacet {
         name: Restriction::simple(name),
@@ -115,7 +113,6 @@ fn specification(
 ) -> Result<Specification, Memory>
     ensures number { IfOk result (λ spec. spec.number ≡ number) }
     ensures form { IfOk result IsSpecification }
-    ensures built { IfOk result (λ spec. is_built_specification spec ≡ true) }
 {
     let facet = Facet::Entity(is_entity(alloc, found)?);
     let applicability = Facets::from_vec(vec![in alloc; facet]?);
@@ -136,7 +133,6 @@ fn specification(
 /// That walls are walls, and that groups are walls.
 pub fn specifications(alloc: Global) -> Result<Vec<Specification>, Memory>
     ensures form { IfOk result (λ specs. AreSpecifications specs.items) }
-    ensures built { IfOk result (λ specs. AreBuilt specs.items) }
 {
     let walls = specification(alloc, 1, "IFCWALL", "IFCWALL")?;
     let groups = specification(alloc, 2, "IFCGROUP", "IFCWALL")?;

@@ -7,8 +7,9 @@ use crate::rows::Do::{Begin, Commit, Give, Publish, Return, Take};
 use crate::rows::{Row, acts, reply_text};
 use audit_core::{Core, CoreJournal};
 use audit_model::{Limits, Reply, ReportText, StepRec};
-use audit_run::{Asked, Hands, PlainEvaluator, give_all_back, run};
+use audit_run::{Asked, Hands, give_all_back, run};
 use p21_read::P21File;
+use pair_eval::Evaluator;
 use std::alloc::Global;
 use std::process::Abort;
 use std::test::Fail;
@@ -25,7 +26,10 @@ fn played(
 {
     let schema = schema(alloc)?;
     let specs = specifications(alloc)?;
-    let evaluator = PlainEvaluator::new(&schema, &specs);
+    let evaluator = Evaluator {
+        schema: &schema,
+        specs: &specs,
+    };
     let Ok(mut core) = Core::new(alloc, &schema, &specs, file, limits) else {
         return Err("the model is refused".into());
     };

@@ -1,7 +1,5 @@
-//! Tests of `narrow_forms`: tables of what the narrow forms of the inputs take and refuse.
+//! Tests of `narrow_forms`: tables of the scripts that are taken and refused.
 #![tactic(auto)]
 
 #[cfg(test)]
 mod scripts;
-#[cfg(test)]
-mod specifications;

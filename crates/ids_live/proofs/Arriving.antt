@@ -79,16 +79,16 @@ not_both (Ok v) ok err = cc
 not_both (Err e) ok err = cc
 
 schema_of_specs : (i : Inputs) → IsOk (to_specs i) → IsOk (to_schema i)
-schema_of_specs i h = before_ok (to_schema i) (λ s. behind s (specs_read i.specs)) h
+schema_of_specs i h = before_ok (to_schema i) (λ s. behind s (specs_read s i.specs)) h
 
 specs_of_model : (i : Inputs) → IsOk (to_model i) → IsOk (to_specs i)
 specs_of_model i h = before_ok (to_specs i) (λ before. model_read before.0 before.1 i.model) h
 
-specs_are : (i : Inputs) (s : Schema) (q : List Specification) → to_schema i ≡ Ok s → specs_read i.specs ≡ Ok q → to_specs i ≡ Ok (s, q)
-specs_are i s q h k = and_then_ok (to_schema i) s (λ x. behind x (specs_read i.specs)) h ∙ ap (λ (r : Result (List Specification) Refused). behind s r) k
+specs_are : (i : Inputs) (s : Schema) (q : List Specification) → to_schema i ≡ Ok s → specs_read s i.specs ≡ Ok q → to_specs i ≡ Ok (s, q)
+specs_are i s q h k = and_then_ok (to_schema i) s (λ x. behind x (specs_read x i.specs)) h ∙ ap (λ (r : Result (List Specification) Refused). behind s r) k
 
-specs_refused : (i : Inputs) (s : Schema) (e : Refused) → to_schema i ≡ Ok s → specs_read i.specs ≡ Err e → to_specs i ≡ Err e
-specs_refused i s e h k = and_then_ok (to_schema i) s (λ x. behind x (specs_read i.specs)) h ∙ ap (λ (r : Result (List Specification) Refused). behind s r) k
+specs_refused : (i : Inputs) (s : Schema) (e : Refused) → to_schema i ≡ Ok s → specs_read s i.specs ≡ Err e → to_specs i ≡ Err e
+specs_refused i s e h k = and_then_ok (to_schema i) s (λ x. behind x (specs_read x i.specs)) h ∙ ap (λ (r : Result (List Specification) Refused). behind s r) k
 
 model_is : (i : Inputs) (s : Schema) (q : List Specification) → to_specs i ≡ Ok (s, q) → to_model i ≡ model_read s q i.model
 model_is i s q h = and_then_ok (to_specs i) (s, q) (λ before. model_read before.0 before.1 i.model) h
@@ -103,7 +103,7 @@ specs_stop : (i : Inputs) (e : Refused) → to_specs i ≡ Err e → loaded_of i
 specs_stop i e h = model_stops i e (and_then_err (to_specs i) e (λ before. model_read before.0 before.1 i.model) h)
 
 schema_stops : (i : Inputs) (e : Refused) → to_schema i ≡ Err e → loaded_of i ≡ Err e
-schema_stops i e h = specs_stop i e (and_then_err (to_schema i) e (λ s. behind s (specs_read i.specs)) h)
+schema_stops i e h = specs_stop i e (and_then_err (to_schema i) e (λ s. behind s (specs_read s i.specs)) h)
 
 script_is : (i : Inputs) (g : Ground) (r : Result (List Phase) Refused) → to_model i ≡ Ok g → script_read i.script ≡ r → loaded_of i ≡ loaded g r
 unfolding loaded_of
@@ -116,7 +116,7 @@ EndsWith i at b e = IsLast (with_bytes i at b) at × (loaded_of (with_bytes i at
 pub ends_at_schema : (i : Inputs) (b : Option (List ℕ)) (e : Refused) → schema_read b ≡ Err e → EndsWith i input.Schema b e
 ends_at_schema i b e h = (reads_err (schema_read b) e h, schema_stops (with_bytes i input.Schema b) e h)
 
-pub ends_at_specs : (i : Inputs) (s : Schema) → to_schema i ≡ Ok s → (b : Option (List ℕ)) (e : Refused) → specs_read b ≡ Err e → EndsWith i input.Specs b e
+pub ends_at_specs : (i : Inputs) (s : Schema) → to_schema i ≡ Ok s → (b : Option (List ℕ)) (e : Refused) → specs_read s b ≡ Err e → EndsWith i input.Specs b e
 ends_at_specs i s h b e k =
     let refused : to_specs (with_bytes i input.Specs b) ≡ Err e = specs_refused (with_bytes i input.Specs b) s e h k in
     (reads_err (to_specs (with_bytes i input.Specs b)) e refused, specs_stop (with_bytes i input.Specs b) e refused)
@@ -198,7 +198,7 @@ at_specs held command old new view v g = (
 )
 
 pub at_model : {V : Type 0} (held : Option Files) (command : Command) (old now new : List Read) (s : Schema) (view : V → List Specification) (v : V) → AtSpecs held command old now s
-    → Reads view (IsInput held now new command.specs limit) specs_read (Ok v) → AtModel held command old new s (view v)
+    → Reads view (IsInput held now new command.specs limit) (specs_read s) (Ok v) → AtModel held command old new s (view v)
 at_model held command old now new s view v (i, a, is) g =
     let read : to_specs (with_bytes i input.Specs g.0) ≡ Ok (s, view v) = specs_are (with_bytes i input.Specs g.0) s (view v) is g.2 in (
       with_bytes i input.Specs g.0,
@@ -237,10 +237,10 @@ stop_at_schema held command old new IsDone view e reads stopped =
     stop_at held command old old new IsDone no_inputs input.Schema view schema_read e (at_schema held command old) reads stopped (λ b refused h. ends_at_schema no_inputs b refused h)
 
 pub stop_at_specs : {V : Type 0} (held : Option Files) (command : Command) (old now new : List Read) (IsDone : Result Loaded Refused → Ended → Type 0) (s : Schema) (view : V → List Specification) (e : Stop)
-    → AtSpecs held command old now s → Reads view (IsInput held now new command.specs limit) specs_read (Err e)
+    → AtSpecs held command old now s → Reads view (IsInput held now new command.specs limit) (specs_read s) (Err e)
     → Stopped {V = V} (IsCut command.specs limit now new) (IsPart command.specs limit now new) (Err e) → Replays held old new command IsDone (Err e)
 stop_at_specs held command old now new IsDone s view e (i, a, is) reads stopped =
-    stop_at held command old now new IsDone i input.Specs view specs_read e a reads stopped (λ b refused h. ends_at_specs i s is b refused h)
+    stop_at held command old now new IsDone i input.Specs view (specs_read s) e a reads stopped (λ b refused h. ends_at_specs i s is b refused h)
 
 pub stop_at_model : {V : Type 0} (held : Option Files) (command : Command) (old now new : List Read) (IsDone : Result Loaded Refused → Ended → Type 0) (s : Schema) (q : List Specification) (view : V → Ground) (e : Stop)
     → AtModel held command old now s q → Reads view (IsInput held now new command.model model_limit) (model_read s q) (Err e)

@@ -111,12 +111,12 @@ same_schema held command i t h told = ap schema_read (told_is held command.schem
 specs_same : (held : Option Files) (command : Command) (i t : Inputs) (r : Result Schema Refused) → to_schema i ≡ r → to_schema i ≡ to_schema t
     → (IsOk (to_schema i) → IsHeld held command.specs limit i.specs) → AreTold held command t → to_specs i ≡ to_specs t
 specs_same held command i t (Err e) is same h told =
-    and_then_err (to_schema i) e (λ s. behind s (specs_read i.specs)) is ∙ sym (and_then_err (to_schema t) e (λ s. behind s (specs_read t.specs)) (sym same ∙ is))
+    and_then_err (to_schema i) e (λ s. behind s (specs_read s i.specs)) is ∙ sym (and_then_err (to_schema t) e (λ s. behind s (specs_read s t.specs)) (sym same ∙ is))
 specs_same held command i t (Ok s) is same h told =
     let reached : IsOk (to_schema t) = reads_ok (to_schema t) s (sym same ∙ is) in
     let bytes : i.specs ≡ t.specs = told_is held command.specs limit i.specs t.specs (h (reads_ok (to_schema i) s is)) (told input.Specs reached) in
-    and_then_ok (to_schema i) s (λ x. behind x (specs_read i.specs)) is ∙ ap (λ (b : Option (List ℕ)). behind s (specs_read b)) bytes
-    ∙ sym (and_then_ok (to_schema t) s (λ x. behind x (specs_read t.specs)) (sym same ∙ is))
+    and_then_ok (to_schema i) s (λ x. behind x (specs_read x i.specs)) is ∙ ap (λ (b : Option (List ℕ)). behind s (specs_read s b)) bytes
+    ∙ sym (and_then_ok (to_schema t) s (λ x. behind x (specs_read x t.specs)) (sym same ∙ is))
 
 -- and the specifications
 pub same_specs : (held : Option Files) (command : Command) (i t : Inputs) → to_schema i ≡ to_schema t → (IsOk (to_schema i) → IsHeld held command.specs limit i.specs) → AreTold held command t → to_specs i ≡ to_specs t

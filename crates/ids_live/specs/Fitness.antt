@@ -4,14 +4,13 @@ use Rattle.audit_model.specs.declared.script.Phase.{Phase}
 use Rattle.audit_model.specs.History.{Ground}
 use Rattle.audit_model.specs.Models.{IsModel}
 use Rattle.audit_model.specs.ScriptOrder.{AreOrderly}
-use Rattle.audit_model.specs.Specifications.{AreBuilt, AreSpecifications}
+use Rattle.audit_model.specs.Specifications.{AreSpecifications}
 use Rattle.ids_live.specs.Forms.{limits}
 
--- The specifications are numbered by their places and have facets that are built; the instances of the model have ascending ids; the
+-- The specifications are numbered by their places; the instances of the model have ascending ids; the
 -- limits are those of the program; the lines of the script are of editor 1 and may come in their order.
 pub record IsFit (g : Ground) (phases : List Phase) : Type 0 where
   pub specs : AreSpecifications g.specs
-  pub built : AreBuilt g.specs
   pub model : IsModel g.first
   pub within : g.limits ≡ limits
   pub order : AreOrderly 1 phases

@@ -1,6 +1,6 @@
 -- What the inputs read as. They are read in the order schema, specifications, model, script, and an input's reading may use those before
 -- it: what is said of an input is said where the inputs before it have a reading.
-use Rattle.std.specs.Prelude.{ℕ, List, [], ◌∷◌, drop, nat_eq, Option, Some, None, Result, Ok, Err, IsOk, IsErr, ⊤, if◌then◌else◌}
+use Rattle.std.specs.Prelude.{ℕ, List, [], ◌∷◌, drop, codes, nat_eq, Option, Some, None, Result, Ok, Err, IsOk, IsErr, ⊤, if◌then◌else◌}
 use Rattle.std.specs.List.{starts_with}
 use Rattle.reading.specs.declared.fault.Fault.{Fault}
 use Rattle.express_decl.specs.declared.decl.Decls.{Decls}
@@ -18,7 +18,7 @@ use Rattle.audit_model.specs.History.{Ground}
 use Rattle.audit_model.specs.Models.{model_of_file}
 use Rattle.audit_core.specs.Fitting.{model_fault}
 use Rattle.narrow_forms.specs.Script.{script_reading}
-use Rattle.narrow_forms.specs.Specifications.{specifications_reading}
+use Rattle.ids_reader.specs.Documents.{ids_reading}
 use Rattle.ids_live.specs.declared.refused.Input.{Input}
 use Rattle.ids_live.specs.declared.refused.Input.TheVariants as input
 use Rattle.ids_live.specs.declared.refused.Refused.{Refused}
@@ -57,8 +57,9 @@ schema_declared (Ok decls) = unless InSchema (schema_fault decls.entities decls.
 unfoldable pub schema_of : List ℕ → Result Schema Refused
 schema_of bytes = schema_declared (declarations_reading bytes)
 
-unfoldable pub specs_of : List ℕ → Result (List Specification) Refused
-specs_of bytes = refused_as InSpecs (specifications_reading bytes)
+-- The specifications, under a schema, for a model of the schema IFC4.
+unfoldable pub specs_of : Schema → List ℕ → Result (List Specification) Refused
+specs_of s bytes = refused_as InSpecs (ids_reading s (codes "IFC4") bytes)
 
 -- the most instances of a model
 abbrev pub instance_limit : ℕ
@@ -86,8 +87,8 @@ script_of bytes = refused_as InScript (script_reading bytes)
 abbrev pub schema_read : Option (List ℕ) → Result Schema Refused
 schema_read bytes = within_limit input.Schema schema_of bytes
 
-abbrev pub specs_read : Option (List ℕ) → Result (List Specification) Refused
-specs_read bytes = within_limit input.Specs specs_of bytes
+abbrev pub specs_read : Schema → Option (List ℕ) → Result (List Specification) Refused
+specs_read s bytes = within_limit input.Specs (specs_of s) bytes
 
 abbrev pub model_read : Schema → List Specification → Option (List ℕ) → Result Ground Refused
 model_read s q bytes = within_limit input.Model (model_of s q) bytes
@@ -111,7 +112,7 @@ abbrev pub to_schema : Inputs → Result Schema Refused
 to_schema i = schema_read i.schema
 
 abbrev pub to_specs : Inputs → Result (Schema × List Specification) Refused
-to_specs i = and_then (to_schema i) (λ s. behind s (specs_read i.specs))
+to_specs i = and_then (to_schema i) (λ s. behind s (specs_read s i.specs))
 
 abbrev pub to_model : Inputs → Result Ground Refused
 to_model i = and_then (to_specs i) (λ before. model_read before.0 before.1 i.model)

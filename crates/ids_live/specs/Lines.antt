@@ -11,8 +11,8 @@ use Rattle.p21_read.specs.declared.fault.P21Cause.{P21Cause}
 use Rattle.p21_read.specs.declared.fault.P21Cause.TheVariants as p21
 use Rattle.audit_core.specs.declared.fits.ModelFault.{ModelFault}
 use Rattle.audit_core.specs.declared.fits.ModelFault.TheVariants as model
-use Rattle.narrow_forms.specs.declared.specifications.IdsCause.{IdsCause}
-use Rattle.narrow_forms.specs.declared.specifications.IdsCause.TheVariants.{Json, NotBuilt}
+use Rattle.ids_reader.specs.declared.fault.IdsCause.{IdsCause}
+use Rattle.ids_reader.specs.declared.fault.IdsCause.TheVariants as ids
 use Rattle.ids_live.specs.declared.refused.Input.{Input}
 use Rattle.ids_live.specs.declared.refused.Input.TheVariants as input
 use Rattle.ids_live.specs.declared.refused.Refused.{Refused}
@@ -32,9 +32,15 @@ decl_word decl.Unclosed = codes " Unclosed\n"
 decl_word decl.ManySupertypes = codes " ManySupertypes\n"
 decl_word decl.Unexpected = codes " Unexpected\n"
 
-abbrev pub cause_word : IdsCause → List ℕ
-cause_word Json = codes " Json\n"
-cause_word NotBuilt = codes " NotBuilt\n"
+abbrev pub ids_word : IdsCause → List ℕ
+ids_word ids.Json = codes " Json\n"
+ids_word ids.Shape = codes " Shape\n"
+ids_word ids.UnknownMember = codes " UnknownMember\n"
+ids_word ids.TooMany = codes " TooMany\n"
+ids_word ids.Occurs = codes " Occurs\n"
+ids_word ids.Cardinality = codes " Cardinality\n"
+ids_word ids.Restriction = codes " Restriction\n"
+ids_word ids.UnknownEntity = codes " UnknownEntity\n"
 
 abbrev pub p21_word : P21Cause → List ℕ
 p21_word p21.BadText = codes " BadText\n"
@@ -74,7 +80,7 @@ unfoldable pub refused_line : Refused → List ℕ
 refused_line (TooLong input) = codes "refused " ++ input_word input ++ codes " TooLong\n"
 refused_line (InDeclarations fault) = codes "refused schema line " ++ decimal fault.line ++ decl_word fault.why
 refused_line (InSchema fault) = codes "refused schema " ++ schema_words fault
-refused_line (InSpecs fault) = codes "refused specs spec " ++ decimal fault.spec ++ codes " place " ++ decimal fault.place ++ cause_word fault.why
+refused_line (InSpecs fault) = codes "refused specs spec " ++ decimal fault.spec ++ codes " place " ++ decimal fault.place ++ ids_word fault.why
 refused_line (InFile fault) = codes "refused model line " ++ decimal fault.line ++ p21_word fault.why
 refused_line (InModel fault) = codes "refused model " ++ model_words fault
 refused_line (InScript fault) = codes "refused script line " ++ decimal fault.line ++ codes " NotBuilt\n"

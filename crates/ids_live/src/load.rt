@@ -3,7 +3,7 @@ ghost use Rattle.std.specs.Prelude.{◌≡◌, ◌<◌, [], IfOk, IfErr};
 ghost use Rattle.std.specs.Str.{chars};
 ghost use Rattle.audit_model.specs.Models.{IsModel};
 ghost use Rattle.audit_model.specs.ScriptOrder.{AreOrderly};
-ghost use Rattle.audit_model.specs.Specifications.{AreBuilt, AreSpecifications};
+ghost use Rattle.audit_model.specs.Specifications.{AreSpecifications};
 ghost use Rattle.reading.specs.Lines.{Answers};
 ghost use Rattle.shelf_io.specs.Pieces.{IsMissing};
 ghost use Rattle.ids_live.specs.Forms.{past_mark, limits, schema_of, specs_of, model_of, script_of};
@@ -17,8 +17,9 @@ use crate::stop::Stop;
 use audit_core::Core;
 use audit_model::{Limits, Phases, Specification, Specifications};
 use express_decl::read_declarations;
-use ifc_base::{Bytes, Refusal};
-use narrow_forms::{read_script, read_specifications};
+use ids_reader::read_ids;
+use ifc_base::{Bytes, Name, Refusal};
+use narrow_forms::read_script;
 use p21_read::read_file;
 use schema_table::SchemaTable;
 use shelf_io::{Shelf, read_all};
@@ -71,27 +72,27 @@ fn table_of(alloc: Global, text: &[u8]) -> Result<SchemaTable, Refusal<Refused>>
     }
 }
 
-/// The specifications, of which each facet is built.
+/// The specifications, whose names of entities the schema has to declare.
 pub fn load_specs<S: Shelf>(
     alloc: Global,
     shelf: &mut S,
     name: &str,
+    schema: &SchemaTable,
 ) -> Result<Specifications, Stop>
     ensures shelf { LeavesShelf (S.held shelf.old) (S.held shelf.new) (S.faults shelf.old)
         (S.faults shelf.new) result }
     ensures steady { StaysSteady (S.steady shelf.old) (S.steady shelf.new) (S.faults shelf.old)
         (S.faults shelf.new) (S.steady shelf.old (chars name.now) → IsMissing (S.held shelf.old) (chars name.now)) result }
     ensures reads { Reads (λ specs. specs) (IsInput (S.held shelf.old) (S.reads shelf.old) (S.reads shelf.new) name.now limit)
-        specs_read result }
+        (specs_read schema.now) result }
     ensures stopped { Stopped (IsCut name.now limit (S.reads shelf.old) (S.reads shelf.new))
         (IsPart name.now limit (S.reads shelf.old) (S.reads shelf.new)) result }
     ensures numbered { IfOk result AreSpecifications }
-    ensures built { IfOk result AreBuilt }
 {
     let Some(bytes) = whole_input(alloc, shelf, name, LIMIT)? else {
         return Err(Stop::Refused(Refused::TooLong(Input::Specs)));
     };
-    match specifications_of(alloc, past_mark(bytes.as_slice())) {
+    match specifications_of(alloc, past_mark(bytes.as_slice()), schema) {
         Ok(read) => Ok(read),
         Err(Refusal::Fault(refused)) => Err(Stop::Refused(refused)),
         Err(Refusal::Memory) => Err(Stop::Memory),
@@ -100,12 +101,16 @@ pub fn load_specs<S: Shelf>(
 
 /// The specifications of the text.
 #[tactic(auto, unfolding(crate::specs::Forms::specs_of))]
-fn specifications_of(alloc: Global, text: &[u8]) -> Result<Specifications, Refusal<Refused>>
-    ensures read { Answers (λ specs. specs) result (specs_of text.now) }
+fn specifications_of(
+    alloc: Global,
+    text: &[u8],
+    schema: &SchemaTable,
+) -> Result<Specifications, Refusal<Refused>>
+    ensures read { Answers (λ specs. specs) result (specs_of schema.now text.now) }
     ensures numbered { IfOk result AreSpecifications }
-    ensures built { IfOk result AreBuilt }
 {
-    match read_specifications(alloc, text) {
+    let schema_id = Name::from_str(alloc, "IFC4")?;
+    match read_ids(alloc, text, schema, &schema_id) {
         Ok(specs) => Ok(specs),
         Err(Refusal::Fault(fault)) => Err(Refusal::Fault(Refused::InSpecs(fault))),
         Err(Refusal::Memory) => Err(Refusal::Memory),
@@ -121,7 +126,6 @@ pub fn load_model<'a, S: Shelf>(
     specs: &'a [Specification],
 ) -> Result<Core<'a>, Stop>
     requires numbered { AreSpecifications specs.now }
-    requires built { AreBuilt specs.now }
     ensures shelf { LeavesShelf (S.held shelf.old) (S.held shelf.new) (S.faults shelf.old)
         (S.faults shelf.new) result }
     ensures steady { StaysSteady (S.steady shelf.old) (S.steady shelf.new) (S.faults shelf.old)
@@ -155,7 +159,6 @@ fn core_of<'a>(
     specs: &'a [Specification],
 ) -> Result<Core<'a>, Refusal<Refused>>
     requires numbered { AreSpecifications specs.now }
-    requires built { AreBuilt specs.now }
     ensures read { Answers (λ core. core.ground) result (model_of schema.now specs.now text.now) }
     ensures history { IfOk result (λ core. core.history ≡ []) }
     ensures model { IfOk result (λ core. IsModel core.ground.first) }

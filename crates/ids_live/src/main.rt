@@ -4,6 +4,8 @@
 #![tactic(auto)]
 
 mod ending;
+#[cfg(test)]
+mod facet_rows;
 mod load;
 mod play;
 mod refused;

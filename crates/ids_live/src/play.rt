@@ -10,7 +10,7 @@ use crate::ending::Ended;
 use crate::refused::{Refused, refused_line};
 use audit_core::{Core, CoreJournal};
 use audit_model::{Limits, Phases, Specification};
-use audit_run::PlainEvaluator;
+use pair_eval::Evaluator;
 use schema_table::SchemaTable;
 use serial_run::{End, full_is_long, run_script, script_is_phased, stop_is_phased};
 use shelf_io::{Sink, write_all};
@@ -40,7 +40,7 @@ pub fn play<K: Sink>(
     script_is_phased();
     stop_is_phased();
     full_is_long();
-    let evaluator = PlainEvaluator::new(schema, specs);
+    let evaluator = Evaluator { schema, specs };
     let ran = run_script(alloc, core, &evaluator, &Limits::STANDARD, phases, out);
     Ended {
         status: status_of(ran.end),

@@ -1,12 +1,13 @@
 ghost use Rattle.std.specs.Prelude.{◌≡◌, ◌++◌, codes, encode_utf8_all, IfOk, OnOk};
 ghost use Rattle.std.specs.Fmt.{decimal};
-ghost use Rattle.ids_live.specs.Lines.{input_word, decl_word, cause_word, p21_word};
+ghost use Rattle.ids_live.specs.Lines.{input_word, decl_word, ids_word, p21_word};
 ghost use Rattle.ids_live.specs.Lines.{instance_word, schema_words, model_words, refused_line};
 
 use audit_core::ModelFault;
 use express_decl::{DeclCause, DeclFault};
+use ids_reader::{IdsCause, IdsFault};
 use ifc_base::{Bytes, Memory, Name};
-use narrow_forms::{IdsCause, IdsFault, LineFault};
+use narrow_forms::LineFault;
 use p21_read::{P21Cause, P21Fault};
 use report_text::{push_decimal, push_text};
 use schema_table::{InstanceFault, SchemaFault};
@@ -118,13 +119,13 @@ fn push_named(line: &mut Vec<u8>, name: &Name, cause: &str) -> Result<(), Memory
 fn push_ids_fault(line: &mut Vec<u8>, fault: IdsFault) -> Result<(), Memory>
     ensures { OnOk result (line.new.items ≡ line.old.items ++
         (codes "refused specs spec " ++ decimal fault.spec ++ codes " place " ++ decimal fault.place
-        ++ cause_word fault.why)) }
+        ++ ids_word fault.why)) }
 {
     push_text(line, "refused specs spec ")?;
     push_decimal(line, u64::from(fault.spec))?;
     push_text(line, " place ")?;
     push_decimal(line, u64::from(fault.place))?;
-    push_text(line, cause_word(fault.why))
+    push_text(line, ids_word(fault.why))
 }
 
 fn push_model_fault(line: &mut Vec<u8>, fault: &ModelFault) -> Result<(), Memory>
@@ -164,12 +165,18 @@ fn decl_word(cause: DeclCause) -> &'static str
     }
 }
 
-fn cause_word(cause: IdsCause) -> &'static str
-    ensures { result.now ≡ cause_word cause }
+fn ids_word(cause: IdsCause) -> &'static str
+    ensures { result.now ≡ ids_word cause }
 {
     match cause {
         IdsCause::Json => " Json\n",
-        IdsCause::NotBuilt => " NotBuilt\n",
+        IdsCause::Shape => " Shape\n",
+        IdsCause::UnknownMember => " UnknownMember\n",
+        IdsCause::TooMany => " TooMany\n",
+        IdsCause::Occurs => " Occurs\n",
+        IdsCause::Cardinality => " Cardinality\n",
+        IdsCause::Restriction => " Restriction\n",
+        IdsCause::UnknownEntity => " UnknownEntity\n",
     }
 }
 

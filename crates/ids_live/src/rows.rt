@@ -108,7 +108,7 @@ pub const ROWS: [Row; 29] = [
         lines: "",
         script: "",
         status: 2,
-        text: "refused specs spec 0 place 0 NotBuilt\n",
+        text: "refused specs spec 0 place 0 Shape\n",
         entries: 0,
     },
     Row {

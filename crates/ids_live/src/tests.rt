@@ -1,3 +1,4 @@
+use crate::facet_rows::{FACETS, RELATED, RELATED_WALLS, RELATIONS, ROLES};
 use crate::rows::{FILES, MODELS, ROWS, Row, SCHEMAS};
 use crate::run_serial;
 use crate::texts::{FOOT, HEADER, PASS, SCHEMA, TWO_WALLS, WALLS};
@@ -95,6 +96,48 @@ fn expect_row<R: Abort>(rt: &R, alloc: Global, row: &Row) -> Result<(), Fail> {
 fn runs_end_as_told(rt: HostRuntime) -> Result<(), Fail> {
     for row in ROWS {
         expect_row(&rt, rt.alloc(), &row)?;
+    }
+    for row in FACETS {
+        expect_row(&rt, rt.alloc(), &row)?;
+    }
+    Ok(())
+}
+
+/// A wall is claimed, related to another one, and then given back: the finding is stale by the role.
+fn expect_stale<R: Abort>(
+    rt: &R,
+    alloc: Global,
+    relation: &str,
+    role: &str,
+    failed: &str,
+) -> Result<(), Fail> {
+    let model = model(alloc, RELATED_WALLS)?;
+    let script = format!(in alloc; "take\nopen\nadd #20={relation}\ncommit\ngive\nsync\n")?;
+    let wanted = format!(in alloc;
+        "1 take 1 #10 0\n1 open 0\n1 commit 1\n1 give stale refs #10 {role} 1\nreport 1\n\
+         spec 1 fail applicable 2 failed 2\nfail #10 {failed}\nfail #11 1 2 3 4\nend fail\n"
+    )?;
+    let mut shelf = shelf(
+        alloc,
+        RELATIONS,
+        RELATED,
+        model.as_str(),
+        script.as_str(),
+        "",
+        0,
+    )?;
+    let mut sink = MemSink::new(alloc, 1000, 1000, Numbers::new(alloc))?;
+    let words = words(alloc, "replay")?;
+    let ended = run_serial(alloc, &words, &mut shelf, &mut sink);
+    assert_eq!(rt; sink.bytes(), wanted.as_bytes(), "{role}");
+    assert_eq!(rt; ended.status, 1, "{role}");
+    Ok(())
+}
+
+#[test]
+fn stale_by_each_role(rt: HostRuntime) -> Result<(), Fail> {
+    for (relation, role, failed) in ROLES {
+        expect_stale(&rt, rt.alloc(), relation, role, failed)?;
     }
     Ok(())
 }

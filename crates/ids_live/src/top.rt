@@ -107,7 +107,7 @@ fn replay<H: Shelf, O: Sink>(
     ensures silent { IfErr result (λ stop. out.new ≡ out.old) }
 {
     let schema = load_schema(alloc, shelf, names.schema)?;
-    let specifications = load_specs(alloc, shelf, names.specs)?;
+    let specifications = load_specs(alloc, shelf, names.specs, &schema)?;
     let specs = specifications.as_slice();
     let core = load_model(alloc, shelf, names.model, &schema, specs)?;
     match load_script(alloc, shelf, names.script) {

@@ -1,3 +1,5 @@
 pub mod Views
 pub mod Trees
 pub mod Dangles
+pub mod Findings
+pub mod Answers

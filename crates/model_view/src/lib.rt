@@ -3,6 +3,7 @@
 #![tactic(auto)]
 
 mod answers;
+mod assess;
 mod attribute;
 mod changes;
 mod claim;
@@ -14,6 +15,7 @@ mod missing;
 mod snapshot;
 
 pub use answers::{Claimed, Delivered, Halt, NotPrepared, Published};
+pub use assess::Assess;
 pub use attribute::{id_of, with_attribute};
 pub use claim::{Claim, Finding};
 pub use draft::Draft;

@@ -4,6 +4,3 @@ pub mod Reads
 pub mod Answers
 pub mod ScriptLine
 pub mod Script
-pub mod Members
-pub mod SpecificationForm
-pub mod Specifications

@@ -179,7 +179,7 @@ const BOUNDS: [(Parts, Sample, bool); 20] = [
     ),
 ];
 
-const TEXTS: [(Parts, Sample, bool); 26] = [
+const TEXTS: [(Parts, Sample, bool); 36] = [
     (
         &[("base", "xs:string"), ("pattern", "W[0-9]{2}")],
         Text("W01"),
@@ -329,6 +329,83 @@ const TEXTS: [(Parts, Sample, bool); 26] = [
         ],
         Int(3),
         false,
+    ),
+    // a pattern beside a length: both
+    (
+        &[
+            ("base", "xs:string"),
+            ("pattern", "[a-z]+"),
+            ("length", "2"),
+        ],
+        Text("ab"),
+        true,
+    ),
+    (
+        &[
+            ("base", "xs:string"),
+            ("pattern", "[a-z]+"),
+            ("length", "2"),
+        ],
+        Text("abc"),
+        false,
+    ),
+    (
+        &[
+            ("base", "xs:string"),
+            ("pattern", "[a-z]+"),
+            ("length", "2"),
+        ],
+        Text("A1"),
+        false,
+    ),
+    // a bound admits numbers alone, a pattern and a length none
+    (
+        &[
+            ("base", "xs:double"),
+            ("pattern", "[0-9]"),
+            ("minInclusive", "1"),
+        ],
+        Int(5),
+        false,
+    ),
+    (
+        &[
+            ("base", "xs:double"),
+            ("pattern", "[0-9]"),
+            ("minInclusive", "1"),
+        ],
+        Text("5"),
+        false,
+    ),
+    (
+        &[
+            ("base", "xs:integer"),
+            ("length", "1"),
+            ("maxInclusive", "9"),
+        ],
+        Int(5),
+        false,
+    ),
+    // dates and times are texts
+    (
+        &[("base", "xs:date"), ("enumeration", "2026-12-01")],
+        Text("2026-12-01"),
+        true,
+    ),
+    (
+        &[("base", "xs:dateTime"), ("minLength", "19")],
+        Text("2026-12-01"),
+        false,
+    ),
+    (
+        &[("base", "xs:time"), ("pattern", "[0-9:]{8}")],
+        Text("12:00:00"),
+        true,
+    ),
+    (
+        &[("base", "xs:duration"), ("length", "3")],
+        Text("P1D"),
+        true,
     ),
 ];
 

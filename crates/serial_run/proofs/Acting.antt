@@ -19,7 +19,8 @@ use Rattle.model_view.specs.Views.{DraftView, FindingView}
 use Rattle.model_view.specs.declared.answers.Halt.{Halt}
 use Rattle.model_view.specs.declared.answers.Halt.TheVariants as halt
 use Rattle.audit_core.specs.Cores.{CoreView}
-use Rattle.audit_core.specs.Steps.{Adds, Unchanged, IsHalted, given_of}
+use Rattle.model_view.specs.Answers.{given_of}
+use Rattle.audit_core.specs.Steps.{Adds, Unchanged, IsHalted}
 use Rattle.serial_run.specs.declared.editor.Editor.{Editor}
 use Rattle.serial_run.specs.declared.editor.Held.{Held}
 use Rattle.serial_run.specs.declared.editor.Held.TheVariants as held
@@ -77,7 +78,7 @@ ready_on g h who base edits told (held.Found f) l k =
     let early : f.claim.snapshot.revision ≤ revision h = (Each-found (IsSound g (commits h)) (λ c. c.number == f.claim.number) (out h) (given_of who f.claim) (sound_out g h l) k.0.is_out).early in
     let stays : model_at g h f.claim.snapshot.revision ≡ model_at g (entry who (call.Commit base edits) told ∷ h) f.claim.snapshot.revision =
     sym (earlier_models_stay g (entry who (call.Commit base edits) told ∷ []) h f.claim.snapshot.revision early) in
-    (record { is_out = k.0.is_out; snapshot_is = k.0.snapshot_is ∙ stays }, k.1)
+    (record { is_out = k.0.is_out; snapshot_is = record { model = k.0.snapshot_is.model ∙ stays; revision = refl; index = k.0.snapshot_is.index } }, k.1)
 
 pub committed : {old new : CoreView} {who : ℕ} (e : Editor) (draft : DraftView) (told : Reply) → WorksIn old who e → e.draft ≡ Some draft → is_full old.ground old.history 1 ≡ false → Adds old new (entry who (call.Commit draft.base.revision draft.edits) told) →
     IsDone (commit_done old.ground who (draft_of e.draft) (place_of e) old.history) old new who (record { draft = None; held = e.held })

@@ -14,13 +14,15 @@ use Rattle.audit_model.specs.ScriptLines.{Place, entry}
 use Rattle.audit_model.specs.Serial.{Done, done, ended, given_to, with_delivery, after_delivery, after_claim, rounds}
 use Rattle.audit_model.proofs.Commits.{model_of-last}
 use Rattle.audit_model.proofs.HistoryLaws.{same_some}
+use Rattle.model_view.specs.Answers.{IsGiven, IsTrue, given_of, delivery_told}
+use Rattle.model_view.specs.Findings.{IsFindingOf}
 use Rattle.model_view.specs.Views.{ClaimView, FindingView}
 use Rattle.model_view.specs.declared.answers.Delivered.{Delivered}
 use Rattle.audit_core.specs.Cores.{CoreView}
 use Rattle.model_view.specs.declared.answers.Halt.{Halt}
 use Rattle.model_view.specs.declared.answers.Halt.TheVariants as halt
-use Rattle.audit_core.specs.Steps.{Adds, Unchanged, IsHalted, IsGiven, IsTrueFinding, given_of, delivery_told}
-use Rattle.audit_run.specs.Holding.{IsTaken, IsFindingOf}
+use Rattle.audit_core.specs.Steps.{Adds, Unchanged, IsHalted}
+use Rattle.audit_run.specs.Holding.{IsTaken}
 use Rattle.serial_run.specs.declared.editor.Held.TheVariants as held
 use Rattle.serial_run.specs.Growth.{IsLater, returns, returned}
 use Rattle.serial_run.specs.Editing.{HoldsIn}
@@ -52,13 +54,20 @@ pub record IsTakenAlone (core : CoreView) (who : ℕ) (c : ClaimView) : Type 0 w
   pub taken : IsTaken core.ground core.history (record { actor = who; claim = c })
   pub alone : out core.history ≡ given_of who c ∷ []
 
-pub took : {old new : CoreView} {who : ℕ} (c : ClaimView) → IsFree old → Adds old new (claimed_entry who c) → IsGiven old new who c → IsTakenAlone new who c
+pub took : {old new : CoreView} {who : ℕ} (c : ClaimView) → IsFree old → Adds old new (claimed_entry who c) → IsGiven old.ground old.history new.history who c → IsTakenAlone new who c
 took {old = old} {who = who} c f a given = record {
-  taken = record { is_out = given.is_out; snapshot_is = rw (a.ground, a.history, given.snapshot.model, given.snapshot.revision) (sym (model_of-last old.ground (commits old.history))) };
+  taken = record {
+    is_out = given.is_out;
+    snapshot_is = record {
+      model = rw (a.ground, a.history, given.snapshot.model, given.snapshot.revision) (sym (model_of-last old.ground (commits old.history)));
+      revision = refl;
+      index = rw a.ground given.snapshot.index;
+    };
+  };
   alone = rw a.history (ap (λ (cs : List Given). cs ++ given_of who c ∷ []) f.none_out);
 }
 
-pub found : {old new : CoreView} {who : ℕ} {c : ClaimView} {f : FindingView} (s : Schema) (specs : List Specification) → s ≡ old.ground.schema → specs ≡ old.ground.specs → IsFree old → Adds old new (claimed_entry who c) → IsGiven old new who c → IsFindingOf s specs c f → HoldsIn new who (held.Found f)
+pub found : {old new : CoreView} {who : ℕ} {c : ClaimView} {f : FindingView} (s : Schema) (specs : List Specification) → s ≡ old.ground.schema → specs ≡ old.ground.specs → IsFree old → Adds old new (claimed_entry who c) → IsGiven old.ground old.history new.history who c → IsFindingOf s specs c f → HoldsIn new who (held.Found f)
 found {old = old} {new = new} {who = who} {c = c} {f = f} s specs kept same free a given k =
     let t : IsTakenAlone new who c = took c free a given in
     let of : IsFindingOf new.ground.schema new.ground.specs c f = rw (a.ground, ← kept, ← same) k in
@@ -92,12 +101,11 @@ cut_behind {old = old} {mid = mid} who c f room a alone b = record {
 
 -- Deliveries.
 
-pub ready_true : {core : CoreView} {who : ℕ} {f : FindingView} → HoldsIn core who (held.Found f) → IsTrueFinding core who f
+pub ready_true : {core : CoreView} {who : ℕ} {f : FindingView} → HoldsIn core who (held.Found f) → IsTrue core.ground core.history who f
 ready_true k = record {
   is_out = k.ready.0.is_out;
-  snapshot_is = k.ready.0.snapshot_is;
-  verdict_is = k.ready.1.verdict_is;
-  needs_are = k.ready.1.needs_are;
+  snapshot_is = k.ready.0.snapshot_is.model;
+  finds = k.ready.1;
 }
 
 pub given_to_self : (who : ℕ) (c : Given) → c.actor ≡ who → given_to who (Some c) ≡ Some c

@@ -6,11 +6,12 @@ use Rattle.audit_model.specs.declared.step.StepRec.{StepRec}
 use Rattle.audit_model.specs.History.{Ground, out, revision}
 use Rattle.audit_model.specs.Machine.{Legal}
 use Rattle.audit_model.specs.ScriptLines.{Place, place}
+use Rattle.model_view.specs.Answers.{given_of}
+use Rattle.model_view.specs.Findings.{IsFindingOf}
 use Rattle.model_view.specs.Views.{DraftView, FindingView}
 use Rattle.audit_core.specs.Cores.{CoreView}
-use Rattle.audit_core.specs.Steps.{given_of}
 use Rattle.audit_run.specs.declared.hands.Taken.{Taken}
-use Rattle.audit_run.specs.Holding.{IsTaken, IsFindingOf}
+use Rattle.audit_run.specs.Holding.{IsTaken}
 use Rattle.serial_run.specs.declared.editor.Editor.{Editor}
 use Rattle.serial_run.specs.declared.editor.Held.{Held}
 use Rattle.serial_run.specs.declared.editor.Held.TheVariants as held

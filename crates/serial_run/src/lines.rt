@@ -1,6 +1,7 @@
 //! What each line of a script does on a core.
 ghost use Rattle.std.specs.Prelude.{◌≡◌, false};
 ghost use Rattle.audit_model.specs.Serial.{act_done};
+ghost use Rattle.audit_model.specs.Specifications.{AreSpecifications};
 ghost use Rattle.serial_run.specs.Editing.{WorksIn, is_holding, place_of};
 ghost use Rattle.serial_run.specs.Course.{LeavesEditor, Publishes};
 
@@ -8,8 +9,7 @@ use crate::editor::{Editor, Held, let_go};
 use crate::turns::{hand_in, rounds, take_up};
 use audit_core::Core;
 use audit_model::{Act, Edit, ReportText};
-use audit_run::Evaluate;
-use model_view::{Draft, Halt, NotPrepared, Published};
+use model_view::{Assess, Draft, Halt, NotPrepared, Published};
 use std::alloc::Global;
 use std::unreachable;
 
@@ -107,7 +107,7 @@ pub fn publish(
 }
 
 /// `take`: claims a pair and evaluates it, and holds what was found. Nothing may be held before.
-pub fn take<E: Evaluate>(
+pub fn take<E: Assess>(
     alloc: Global,
     core: &mut Core,
     evaluator: &E,
@@ -118,6 +118,7 @@ pub fn take<E: Evaluate>(
     requires free { is_holding editor.held ≡ false }
     requires schema { E.schema evaluator.now ≡ core.old.ground.schema }
     requires specs { E.specs evaluator.now ≡ core.old.ground.specs }
+    requires specifications { AreSpecifications (E.specs evaluator.now) }
     ensures { LeavesEditor (act_done core.old.ground who Act.Take (place_of editor) core.old.history)
         core.old core.new who result }
 {
@@ -154,7 +155,7 @@ pub fn give(core: &mut Core, who: u32, editor: Editor) -> Result<Editor, Halt>
 }
 
 /// `work N`: so many rounds, or fewer where a claim is answered `Idle`. Nothing may be held.
-pub fn work<E: Evaluate>(
+pub fn work<E: Assess>(
     alloc: Global,
     core: &mut Core,
     evaluator: &E,
@@ -166,6 +167,7 @@ pub fn work<E: Evaluate>(
     requires free { is_holding editor.held ≡ false }
     requires schema { E.schema evaluator.now ≡ core.old.ground.schema }
     requires specs { E.specs evaluator.now ≡ core.old.ground.specs }
+    requires specifications { AreSpecifications (E.specs evaluator.now) }
     ensures { LeavesEditor (act_done core.old.ground who (Act.Work most) (place_of editor) core.old.history)
         core.old core.new who result }
 {

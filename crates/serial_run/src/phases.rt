@@ -3,6 +3,7 @@ ghost use Rattle.std.specs.Prelude.{◌≡◌, false};
 ghost use Rattle.audit_model.specs.ScriptLines.{free};
 ghost use Rattle.audit_model.specs.ScriptOrder.{IsOrderly};
 ghost use Rattle.audit_model.specs.Serial.{Run, drain_done, lines_run, sync_run};
+ghost use Rattle.audit_model.specs.Specifications.{AreSpecifications};
 ghost use Rattle.serial_run.specs.Running.{AtRun, Drains, IsSound, LeavesLinesTold, Phases};
 ghost use Rattle.serial_run.specs.Turns.{IsFree};
 
@@ -11,14 +12,13 @@ use crate::steps::step;
 use crate::turns::rounds;
 use audit_core::Core;
 use audit_model::{Limits, Phase, ReportText, ScriptLines, drain_ends};
-use audit_run::Evaluate;
 use ifc_base::Bytes;
-use model_view::{Halt, Published};
+use model_view::{Assess, Halt, Published};
 use std::alloc::Global;
 use std::unreachable;
 
 /// The lines of a phase, in their order; what the editor is told is appended.
-fn lines<E: Evaluate>(
+fn lines<E: Assess>(
     alloc: Global,
     core: &mut Core,
     evaluator: &E,
@@ -30,6 +30,7 @@ fn lines<E: Evaluate>(
     requires order { IsOrderly 1 false false lines }
     requires schema { E.schema evaluator.now ≡ core.old.ground.schema }
     requires specs { E.specs evaluator.now ≡ core.old.ground.specs }
+    requires specifications { AreSpecifications (E.specs evaluator.now) }
     requires limits { limits.now ≡ core.old.ground.limits }
     ensures { (s : Run) → AtRun s core.old free →
         LeavesLinesTold (lines_run core.old.ground lines s) core.old core.new text.old.items text.new.items result }
@@ -53,11 +54,12 @@ fn lines<E: Evaluate>(
 
 /// The drain at the end of a phase: claims, evaluates and delivers what is left, and publishes. It
 /// answers the report.
-fn drain<E: Evaluate>(alloc: Global, core: &mut Core, evaluator: &E) -> Result<ReportText, Halt>
+fn drain<E: Assess>(alloc: Global, core: &mut Core, evaluator: &E) -> Result<ReportText, Halt>
     requires free { IsFree core.old }
     requires sound { IsSound core.old.ground }
     requires schema { E.schema evaluator.now ≡ core.old.ground.schema }
     requires specs { E.specs evaluator.now ≡ core.old.ground.specs }
+    requires specifications { AreSpecifications (E.specs evaluator.now) }
     ensures { Drains (drain_done core.old.ground core.old.history) core.old core.new result }
 {
     drain_ends();
@@ -71,7 +73,7 @@ fn drain<E: Evaluate>(alloc: Global, core: &mut Core, evaluator: &E) -> Result<R
 
 /// One phase: its lines, and then the drain. It answers its text: what the editor is told, and the
 /// report.
-pub fn phase<E: Evaluate>(
+pub fn phase<E: Assess>(
     alloc: Global,
     core: &mut Core,
     evaluator: &E,
@@ -83,6 +85,7 @@ pub fn phase<E: Evaluate>(
     requires order { IsOrderly 1 false false phase.lines }
     requires schema { E.schema evaluator.now ≡ core.old.ground.schema }
     requires specs { E.specs evaluator.now ≡ core.old.ground.specs }
+    requires specifications { AreSpecifications (E.specs evaluator.now) }
     requires limits { limits.now ≡ core.old.ground.limits }
     ensures { (s : Run) → AtRun s core.old free →
         Phases (sync_run core.old.ground (lines_run core.old.ground phase.lines s)) core.old core.new result }

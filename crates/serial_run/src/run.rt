@@ -4,6 +4,7 @@ ghost use Rattle.audit_model.specs.Machine.{Legal};
 ghost use Rattle.audit_model.specs.Output.{output};
 ghost use Rattle.audit_model.specs.ScriptOrder.{AreOrderly};
 ghost use Rattle.audit_model.specs.Serial.{serial};
+ghost use Rattle.audit_model.specs.Specifications.{AreSpecifications};
 ghost use Rattle.serial_run.specs.Running.{IsSound};
 ghost use Rattle.serial_run.specs.Runs.{IsFinished, IsRan, IsWritten, ends_pass};
 ghost use Rattle.serial_run.specs.declared.run.End.TheVariants as ending;
@@ -11,8 +12,7 @@ ghost use Rattle.serial_run.specs.declared.run.End.TheVariants as ending;
 use crate::phases::phase;
 use audit_core::{Core, CoreJournal};
 use audit_model::{Limits, Phases, output_is_told, serial_is_legal};
-use audit_run::Evaluate;
-use model_view::Halt;
+use model_view::{Assess, Halt};
 use shelf_io::{Sink, write_all};
 use std::alloc::Global;
 
@@ -45,7 +45,7 @@ pub struct Ran {
 /// The journal is the history that the definitions give to the script; where the run was stopped, a
 /// front of it, and behind it the return of each claim that was out. Cost: that of the calls of the
 /// core, and `O(t)` for a text of `t` bytes.
-pub fn run_script<E: Evaluate, K: Sink>(
+pub fn run_script<E: Assess, K: Sink>(
     alloc: Global,
     core: Core,
     evaluator: &E,
@@ -58,6 +58,7 @@ pub fn run_script<E: Evaluate, K: Sink>(
     requires order { AreOrderly 1 phases }
     requires schema { E.schema evaluator.now ≡ core.ground.schema }
     requires specs { E.specs evaluator.now ≡ core.ground.specs }
+    requires specifications { AreSpecifications (E.specs evaluator.now) }
     requires limits { limits.now ≡ core.ground.limits }
     ensures ran { IsRan core.entry.ground phases (K.written out.old) (K.written out.new) result }
     ensures sink { IsFinished (K.faults out.old) (K.faults out.new) result.end }

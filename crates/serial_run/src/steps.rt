@@ -2,6 +2,7 @@
 ghost use Rattle.std.specs.Prelude.{◌≡◌, ◌≤◌, ◌++◌, true, drop, length, reverse, OnOk};
 ghost use Rattle.audit_model.specs.ScriptOrder.{may_come};
 ghost use Rattle.audit_model.specs.Serial.{act_done};
+ghost use Rattle.audit_model.specs.Specifications.{AreSpecifications};
 ghost use Rattle.serial_run.specs.Editing.{WorksIn, is_drafting, is_holding, place_of};
 ghost use Rattle.serial_run.specs.Course.{text_in};
 ghost use Rattle.serial_run.specs.Lines.{entry_lines};
@@ -13,16 +14,15 @@ use crate::lines::{begin, change, commit, give, publish, take, work};
 use crate::telling::push_entries;
 use audit_core::Core;
 use audit_model::{Act, Limits, ReportText};
-use audit_run::Evaluate;
 use ifc_base::Memory;
-use model_view::Halt;
+use model_view::{Assess, Halt};
 use std::alloc::Global;
 
 /// The one editor of a script.
 const EDITOR: u32 = 1;
 
 /// Does a line of the editor and appends what the editor is told of it.
-pub fn step<E: Evaluate>(
+pub fn step<E: Assess>(
     alloc: Global,
     core: &mut Core,
     evaluator: &E,
@@ -35,6 +35,7 @@ pub fn step<E: Evaluate>(
     requires order { may_come (is_drafting editor.draft) (is_holding editor.held) line ≡ true }
     requires schema { E.schema evaluator.now ≡ core.old.ground.schema }
     requires specs { E.specs evaluator.now ≡ core.old.ground.specs }
+    requires specifications { AreSpecifications (E.specs evaluator.now) }
     requires limits { limits.now ≡ core.old.ground.limits }
     ensures { Steps (act_done core.old.ground 1 line (place_of editor) core.old.history)
         core.old core.new text.old.items text.new.items result }
@@ -74,7 +75,7 @@ fn tell(
 }
 
 /// Does what a line says. The text is that of the report that a `publish` gave.
-pub fn act<E: Evaluate>(
+pub fn act<E: Assess>(
     alloc: Global,
     core: &mut Core,
     evaluator: &E,
@@ -86,6 +87,7 @@ pub fn act<E: Evaluate>(
     requires order { may_come (is_drafting editor.draft) (is_holding editor.held) line ≡ true }
     requires schema { E.schema evaluator.now ≡ core.old.ground.schema }
     requires specs { E.specs evaluator.now ≡ core.old.ground.specs }
+    requires specifications { AreSpecifications (E.specs evaluator.now) }
     ensures { Acts (act_done core.old.ground who line (place_of editor) core.old.history) line core.old core.new who result }
 {
     let editor = match line {

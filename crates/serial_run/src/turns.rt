@@ -4,19 +4,19 @@ ghost use Rattle.audit_model.specs.History.{out};
 ghost use Rattle.audit_model.specs.Machine.{Legal};
 ghost use Rattle.audit_model.specs.ScriptLines.{Place};
 ghost use Rattle.audit_model.specs.Serial.{rounds};
+ghost use Rattle.audit_model.specs.Specifications.{AreSpecifications};
 ghost use Rattle.serial_run.specs.Editing.{HoldsIn};
 ghost use Rattle.serial_run.specs.Turns.{IsFree, Takes, HandsIn, LeavesRound};
 ghost use Rattle.serial_run.specs.Course.{Works};
 
 use crate::editor::Held;
 use audit_core::Core;
-use audit_run::Evaluate;
-use model_view::{Claimed, Finding, Halt};
+use model_view::{Assess, Claimed, Finding, Halt};
 use std::alloc::Global;
 
 /// Claims the least pair that is left, and evaluates it. Where memory is wanting the claim is given
 /// back.
-pub fn take_up<E: Evaluate>(
+pub fn take_up<E: Assess>(
     alloc: Global,
     core: &mut Core,
     evaluator: &E,
@@ -25,11 +25,12 @@ pub fn take_up<E: Evaluate>(
     requires free { IsFree core.old }
     requires schema { E.schema evaluator.now ≡ core.old.ground.schema }
     requires specs { E.specs evaluator.now ≡ core.old.ground.specs }
+    requires specifications { AreSpecifications (E.specs evaluator.now) }
     ensures { Takes core.old core.new who result }
 {
     match core.claim(who)? {
         Claimed::Idle => Ok(None),
-        Claimed::Pair(claim) => match evaluator.evaluate(alloc, claim) {
+        Claimed::Pair(claim) => match evaluator.assess(alloc, claim) {
             Ok(finding) => Ok(Some(finding)),
             Err((_, claim)) => {
                 core.give_back(who, claim);
@@ -54,10 +55,11 @@ pub fn hand_in(core: &mut Core, who: u32, finding: Finding) -> Result<(), Halt>
 }
 
 /// One round: claims a pair, evaluates and delivers it. It answers whether there was a pair.
-fn round<E: Evaluate>(alloc: Global, core: &mut Core, evaluator: &E, who: u32) -> Result<bool, Halt>
+fn round<E: Assess>(alloc: Global, core: &mut Core, evaluator: &E, who: u32) -> Result<bool, Halt>
     requires free { IsFree core.old }
     requires schema { E.schema evaluator.now ≡ core.old.ground.schema }
     requires specs { E.specs evaluator.now ≡ core.old.ground.specs }
+    requires specifications { AreSpecifications (E.specs evaluator.now) }
     ensures { LeavesRound core.old core.new who result }
 {
     let Some(finding) = take_up(alloc, core, evaluator, who)? else {
@@ -68,7 +70,7 @@ fn round<E: Evaluate>(alloc: Global, core: &mut Core, evaluator: &E, who: u32) -
 }
 
 /// So many rounds, or fewer where a claim is answered `Idle`.
-pub fn rounds<E: Evaluate>(
+pub fn rounds<E: Assess>(
     alloc: Global,
     core: &mut Core,
     evaluator: &E,
@@ -78,6 +80,7 @@ pub fn rounds<E: Evaluate>(
     requires free { IsFree core.old }
     requires schema { E.schema evaluator.now ≡ core.old.ground.schema }
     requires specs { E.specs evaluator.now ≡ core.old.ground.specs }
+    requires specifications { AreSpecifications (E.specs evaluator.now) }
     ensures { (p : Place) → Works (rounds core.old.ground who most p core.old.history) core.old core.new result }
 {
     for _ in 0..most {

@@ -2,7 +2,8 @@ ghost use Rattle.std.specs.Prelude.{◌≡◌, ◌≤◌, true, false, Some, IfO
 ghost use Rattle.audit_model.specs.Judging.{judge};
 ghost use Rattle.audit_model.specs.History.{current, last_change, revision};
 ghost use Rattle.audit_model.specs.Machine.{is_full};
-ghost use Rattle.audit_core.specs.Commits.{gives_full, IsNotPrepared, IsPlan, IsPlanned, IsPreparedFor};
+ghost use Rattle.model_view.specs.Answers.{gives_full};
+ghost use Rattle.audit_core.specs.Commits.{IsNotPrepared, IsPlan, IsPlanned, IsPreparedFor};
 ghost use Rattle.audit_core.specs.Steps.{Adds, Unchanged};
 
 use super::Core;

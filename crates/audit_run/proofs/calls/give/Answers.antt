@@ -1,6 +1,6 @@
 use Rattle.std.proofs.Common.{◌≡◌, ◌∙◌, ap, sym}
 use Rattle.model_view.specs.Views.{ClaimView, FindingView}
-use Rattle.audit_core.specs.Steps.{delivery_told}
+use Rattle.model_view.specs.Answers.{delivery_told}
 use Rattle.audit_run.specs.declared.calls.Act.TheVariants as act
 use Rattle.audit_run.specs.Holding.{claim_of, taken_as, taken_by}
 use Rattle.audit_run.proofs.ActLaws.{give_done, give_back_done, give_none, none_held}
@@ -8,6 +8,11 @@ use Rattle.audit_run.proofs.Firsts.{none_removed}
 use Rattle.audit_run.proofs.PlayLaws.{adds_on, out_of, played_none, unchanged_self, true_finding, gave, gave_back, gave_back_after}
 use Rattle.audit_run.proofs.calls.give.Goals as goal
 use Rattle.audit_run.proofs.calls.give.Goals.{in-Ok+in-Ok-deliver, in-Ok+in-Err-deliver, in-Err}
+
+pub assess-requires-clause-index : goal.assess-requires-clause-index
+assess-requires-clause-index g c =
+    let k = rw (← c.hands.view_is) at c.requires.holding in
+    rw c.requires.schema (out_of k c.in-Some.ensures.first c.take_claim.ensures.others).own.snapshot_is.index
 
 pub deliver-requires : goal.deliver-requires
 deliver-requires g c =
@@ -46,7 +51,7 @@ pub returns-clause-play : goal.returns-clause-play
 returns-clause-play g c =
     let k = rw (← c.hands.view_is) at c.requires.holding in
     let p = out_of k c.in-Some.ensures.first c.take_claim.ensures.others in
-    elim c.match-evaluate.branch [
+    elim c.match-assess.branch [
       | in-Ok+in-Ok-deliver w ↦
           let f = w.in-Ok.ensures.ok in
           rw w.core-is (gave c.args.actor w.in-Ok.finding.claim.number c.in-Some.claim w.in-Ok-deliver.field-0 c.take_claim.new.claims.items k p (ap (λ (x : ClaimView). x.number) f.claim_is) w.in-Ok-deliver.ensures.ok)
@@ -63,7 +68,7 @@ returns-clause-acts g c =
     let k = rw (← c.hands.view_is) at c.requires.holding in
     let p = out_of k c.in-Some.ensures.first c.take_claim.ensures.others in
     let first = c.in-Some.ensures.first in
-    elim c.match-evaluate.branch [
+    elim c.match-assess.branch [
       | in-Ok+in-Ok-deliver w ↦
           let f = w.in-Ok.ensures.ok in
           rw (← c.hands.view_is, w.core-is, c.take_claim.ensures.others)

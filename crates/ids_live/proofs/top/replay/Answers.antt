@@ -23,7 +23,7 @@ returns-in_err-specifications-clause-replays g c =
     let p = err_from_is_err_and c.from_residual-in_err-specifications.result c.from_residual-in_err-specifications.ensures.1 in
     let schema = at_specs (g.H.Shelf.held c.args.shelf.now) (command_shown c.args.names) (g.H.Shelf.reads c.args.shelf.now) (g.H.Shelf.reads c.load_schema.new.shelf) (λ s. s) c.in_ok-schema.schema c.in_ok-schema.ensures.reads in
     let same_specs = c.in_ok-schema.ensures.shelf.same in
-    let read_specs = moved (λ q. q) (g.H.Shelf.held c.load_schema.new.shelf) (g.H.Shelf.held c.args.shelf.now) (g.H.Shelf.reads c.load_schema.new.shelf) (g.H.Shelf.reads c.load_specs.new.shelf) (command_shown c.args.names).specs limit specs_read (Err c.in_err-specifications.field-0.0) same_specs c.in_err-specifications.ensures.reads in
+    let read_specs = moved (λ q. q) (g.H.Shelf.held c.load_schema.new.shelf) (g.H.Shelf.held c.args.shelf.now) (g.H.Shelf.reads c.load_schema.new.shelf) (g.H.Shelf.reads c.load_specs.new.shelf) (command_shown c.args.names).specs limit (specs_read c.in_ok-schema.schema) (Err c.in_err-specifications.field-0.0) same_specs c.in_err-specifications.ensures.reads in
     rw (p.1, p.2) (stop_at_specs (g.H.Shelf.held c.args.shelf.now) (command_shown c.args.names) (g.H.Shelf.reads c.args.shelf.now) (g.H.Shelf.reads c.load_schema.new.shelf) (g.H.Shelf.reads c.load_specs.new.shelf) (IsPast (g.O.Sink.written c.args.out.now) (g.O.Sink.written c.args.out.now) (g.O.Sink.sure c.args.out.now)) c.in_ok-schema.schema (λ q. q) c.in_err-specifications.field-0.0 schema read_specs c.in_err-specifications.ensures.stopped)
 
 pub returns-in_err-core-clause-replays : goal.returns-in_err-core-clause-replays
@@ -31,7 +31,7 @@ returns-in_err-core-clause-replays g c =
     let p = err_from_is_err_and c.from_residual-in_err-core.result c.from_residual-in_err-core.ensures.1 in
     let schema = at_specs (g.H.Shelf.held c.args.shelf.now) (command_shown c.args.names) (g.H.Shelf.reads c.args.shelf.now) (g.H.Shelf.reads c.load_schema.new.shelf) (λ s. s) c.in_ok-schema.schema c.in_ok-schema.ensures.reads in
     let same_specs = c.in_ok-schema.ensures.shelf.same in
-    let read_specs = moved (λ q. q) (g.H.Shelf.held c.load_schema.new.shelf) (g.H.Shelf.held c.args.shelf.now) (g.H.Shelf.reads c.load_schema.new.shelf) (g.H.Shelf.reads c.load_specs.new.shelf) (command_shown c.args.names).specs limit specs_read (Ok c.in_ok-specifications.specifications) same_specs c.in_ok-specifications.ensures.reads in
+    let read_specs = moved (λ q. q) (g.H.Shelf.held c.load_schema.new.shelf) (g.H.Shelf.held c.args.shelf.now) (g.H.Shelf.reads c.load_schema.new.shelf) (g.H.Shelf.reads c.load_specs.new.shelf) (command_shown c.args.names).specs limit (specs_read c.in_ok-schema.schema) (Ok c.in_ok-specifications.specifications) same_specs c.in_ok-specifications.ensures.reads in
     let specs = at_model (g.H.Shelf.held c.args.shelf.now) (command_shown c.args.names) (g.H.Shelf.reads c.args.shelf.now) (g.H.Shelf.reads c.load_schema.new.shelf) (g.H.Shelf.reads c.load_specs.new.shelf) c.in_ok-schema.schema (λ q. q) c.in_ok-specifications.specifications schema read_specs in
     let same_model = c.in_ok-specifications.ensures.shelf.same ∙ same_specs in
     let read_model = moved_model (λ (core : CoreView). core.ground) (g.H.Shelf.held c.load_specs.new.shelf) (g.H.Shelf.held c.args.shelf.now) (g.H.Shelf.reads c.load_specs.new.shelf) (g.H.Shelf.reads c.load_model.new.shelf) (command_shown c.args.names).model c.in_ok-schema.schema c.as_slice-specs.result.now c.in_ok-specifications.specifications (Err c.in_err-core.field-0.0) same_model c.as_slice-specs.ensures c.in_err-core.ensures.reads in
@@ -41,7 +41,7 @@ pub returns-clause-replays : goal.returns-clause-replays
 returns-clause-replays g c =
     let schema = at_specs (g.H.Shelf.held c.args.shelf.now) (command_shown c.args.names) (g.H.Shelf.reads c.args.shelf.now) (g.H.Shelf.reads c.load_schema.new.shelf) (λ s. s) c.in_ok-schema.schema c.in_ok-schema.ensures.reads in
     let same_specs = c.in_ok-schema.ensures.shelf.same in
-    let read_specs = moved (λ q. q) (g.H.Shelf.held c.load_schema.new.shelf) (g.H.Shelf.held c.args.shelf.now) (g.H.Shelf.reads c.load_schema.new.shelf) (g.H.Shelf.reads c.load_specs.new.shelf) (command_shown c.args.names).specs limit specs_read (Ok c.in_ok-specifications.specifications) same_specs c.in_ok-specifications.ensures.reads in
+    let read_specs = moved (λ q. q) (g.H.Shelf.held c.load_schema.new.shelf) (g.H.Shelf.held c.args.shelf.now) (g.H.Shelf.reads c.load_schema.new.shelf) (g.H.Shelf.reads c.load_specs.new.shelf) (command_shown c.args.names).specs limit (specs_read c.in_ok-schema.schema) (Ok c.in_ok-specifications.specifications) same_specs c.in_ok-specifications.ensures.reads in
     let specs = at_model (g.H.Shelf.held c.args.shelf.now) (command_shown c.args.names) (g.H.Shelf.reads c.args.shelf.now) (g.H.Shelf.reads c.load_schema.new.shelf) (g.H.Shelf.reads c.load_specs.new.shelf) c.in_ok-schema.schema (λ q. q) c.in_ok-specifications.specifications schema read_specs in
     let same_model = c.in_ok-specifications.ensures.shelf.same ∙ same_specs in
     let read_model = moved_model (λ (core : CoreView). core.ground) (g.H.Shelf.held c.load_specs.new.shelf) (g.H.Shelf.held c.args.shelf.now) (g.H.Shelf.reads c.load_specs.new.shelf) (g.H.Shelf.reads c.load_model.new.shelf) (command_shown c.args.names).model c.in_ok-schema.schema c.as_slice-specs.result.now c.in_ok-specifications.specifications (Ok c.in_ok-core.core) same_model c.as_slice-specs.ensures c.in_ok-core.ensures.reads in
@@ -54,7 +54,7 @@ pub returns-in-Ok-clause-replays : goal.returns-in-Ok-clause-replays
 returns-in-Ok-clause-replays g c =
     let schema = at_specs (g.H.Shelf.held c.args.shelf.now) (command_shown c.args.names) (g.H.Shelf.reads c.args.shelf.now) (g.H.Shelf.reads c.load_schema.new.shelf) (λ s. s) c.in_ok-schema.schema c.in_ok-schema.ensures.reads in
     let same_specs = c.in_ok-schema.ensures.shelf.same in
-    let read_specs = moved (λ q. q) (g.H.Shelf.held c.load_schema.new.shelf) (g.H.Shelf.held c.args.shelf.now) (g.H.Shelf.reads c.load_schema.new.shelf) (g.H.Shelf.reads c.load_specs.new.shelf) (command_shown c.args.names).specs limit specs_read (Ok c.in_ok-specifications.specifications) same_specs c.in_ok-specifications.ensures.reads in
+    let read_specs = moved (λ q. q) (g.H.Shelf.held c.load_schema.new.shelf) (g.H.Shelf.held c.args.shelf.now) (g.H.Shelf.reads c.load_schema.new.shelf) (g.H.Shelf.reads c.load_specs.new.shelf) (command_shown c.args.names).specs limit (specs_read c.in_ok-schema.schema) (Ok c.in_ok-specifications.specifications) same_specs c.in_ok-specifications.ensures.reads in
     let specs = at_model (g.H.Shelf.held c.args.shelf.now) (command_shown c.args.names) (g.H.Shelf.reads c.args.shelf.now) (g.H.Shelf.reads c.load_schema.new.shelf) (g.H.Shelf.reads c.load_specs.new.shelf) c.in_ok-schema.schema (λ q. q) c.in_ok-specifications.specifications schema read_specs in
     let same_model = c.in_ok-specifications.ensures.shelf.same ∙ same_specs in
     let read_model = moved_model (λ (core : CoreView). core.ground) (g.H.Shelf.held c.load_specs.new.shelf) (g.H.Shelf.held c.args.shelf.now) (g.H.Shelf.reads c.load_specs.new.shelf) (g.H.Shelf.reads c.load_model.new.shelf) (command_shown c.args.names).model c.in_ok-schema.schema c.as_slice-specs.result.now c.in_ok-specifications.specifications (Ok c.in_ok-core.core) same_model c.as_slice-specs.ensures c.in_ok-core.ensures.reads in
@@ -87,7 +87,7 @@ returns-in_err-core-clause-steady g c =
     let p = err_from_is_err_and c.from_residual-in_err-core.result c.from_residual-in_err-core.ensures.1 in
     let schema = at_specs (g.H.Shelf.held c.args.shelf.now) (command_shown c.args.names) (g.H.Shelf.reads c.args.shelf.now) (g.H.Shelf.reads c.load_schema.new.shelf) (λ s. s) c.in_ok-schema.schema c.in_ok-schema.ensures.reads in
     let same_specs = c.in_ok-schema.ensures.shelf.same in
-    let read_specs = moved (λ q. q) (g.H.Shelf.held c.load_schema.new.shelf) (g.H.Shelf.held c.args.shelf.now) (g.H.Shelf.reads c.load_schema.new.shelf) (g.H.Shelf.reads c.load_specs.new.shelf) (command_shown c.args.names).specs limit specs_read (Ok c.in_ok-specifications.specifications) same_specs c.in_ok-specifications.ensures.reads in
+    let read_specs = moved (λ q. q) (g.H.Shelf.held c.load_schema.new.shelf) (g.H.Shelf.held c.args.shelf.now) (g.H.Shelf.reads c.load_schema.new.shelf) (g.H.Shelf.reads c.load_specs.new.shelf) (command_shown c.args.names).specs limit (specs_read c.in_ok-schema.schema) (Ok c.in_ok-specifications.specifications) same_specs c.in_ok-specifications.ensures.reads in
     let specs = at_model (g.H.Shelf.held c.args.shelf.now) (command_shown c.args.names) (g.H.Shelf.reads c.args.shelf.now) (g.H.Shelf.reads c.load_schema.new.shelf) (g.H.Shelf.reads c.load_specs.new.shelf) c.in_ok-schema.schema (λ q. q) c.in_ok-specifications.specifications schema read_specs in
     let same_model = c.in_ok-specifications.ensures.shelf.same ∙ same_specs in
     rw (p.1, p.2) (stops _ (g.H.Shelf.held c.args.shelf.now) (g.H.Shelf.held c.load_specs.new.shelf) (g.H.Shelf.steady c.args.shelf.now) (g.H.Shelf.steady c.load_specs.new.shelf) _ (command_shown c.args.names) c.args.names.model.now _ _ _ c.in_err-core.field-0.0
@@ -98,7 +98,7 @@ pub returns-clause-steady : goal.returns-clause-steady
 returns-clause-steady g c =
     let schema = at_specs (g.H.Shelf.held c.args.shelf.now) (command_shown c.args.names) (g.H.Shelf.reads c.args.shelf.now) (g.H.Shelf.reads c.load_schema.new.shelf) (λ s. s) c.in_ok-schema.schema c.in_ok-schema.ensures.reads in
     let same_specs = c.in_ok-schema.ensures.shelf.same in
-    let read_specs = moved (λ q. q) (g.H.Shelf.held c.load_schema.new.shelf) (g.H.Shelf.held c.args.shelf.now) (g.H.Shelf.reads c.load_schema.new.shelf) (g.H.Shelf.reads c.load_specs.new.shelf) (command_shown c.args.names).specs limit specs_read (Ok c.in_ok-specifications.specifications) same_specs c.in_ok-specifications.ensures.reads in
+    let read_specs = moved (λ q. q) (g.H.Shelf.held c.load_schema.new.shelf) (g.H.Shelf.held c.args.shelf.now) (g.H.Shelf.reads c.load_schema.new.shelf) (g.H.Shelf.reads c.load_specs.new.shelf) (command_shown c.args.names).specs limit (specs_read c.in_ok-schema.schema) (Ok c.in_ok-specifications.specifications) same_specs c.in_ok-specifications.ensures.reads in
     let specs = at_model (g.H.Shelf.held c.args.shelf.now) (command_shown c.args.names) (g.H.Shelf.reads c.args.shelf.now) (g.H.Shelf.reads c.load_schema.new.shelf) (g.H.Shelf.reads c.load_specs.new.shelf) c.in_ok-schema.schema (λ q. q) c.in_ok-specifications.specifications schema read_specs in
     let same_model = c.in_ok-specifications.ensures.shelf.same ∙ same_specs in
     let read_model = moved_model (λ (core : CoreView). core.ground) (g.H.Shelf.held c.load_specs.new.shelf) (g.H.Shelf.held c.args.shelf.now) (g.H.Shelf.reads c.load_specs.new.shelf) (g.H.Shelf.reads c.load_model.new.shelf) (command_shown c.args.names).model c.in_ok-schema.schema c.as_slice-specs.result.now c.in_ok-specifications.specifications (Ok c.in_ok-core.core) same_model c.as_slice-specs.ensures c.in_ok-core.ensures.reads in

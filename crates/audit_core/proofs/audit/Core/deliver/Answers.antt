@@ -2,7 +2,7 @@ use Rattle.std.proofs.Common.{◌≡◌, ◌∙◌, refl, sym, ap, find, None, S
 use Rattle.audit_model.specs.History.{changed_since}
 use Rattle.audit_model.specs.Machine.{Legal, least_changed}
 use Rattle.model_view.specs.Views.{FindingView, ClaimView}
-use Rattle.audit_core.specs.Steps.{given_of}
+use Rattle.model_view.specs.Answers.{given_of}
 use Rattle.audit_core.proofs.Uses.{changed_of, stale_of, found_now}
 use Rattle.audit_core.proofs.audit.Core.deliver.Goals as goal
 

@@ -1,6 +1,6 @@
 use Rattle.std.proofs.Common.{refl}
 use Rattle.std.proofs.lemmas.List.{reverse-append}
-use Rattle.audit_core.specs.Steps.{given_of}
+use Rattle.model_view.specs.Answers.{given_of}
 use Rattle.audit_core.proofs.Entries.{ascending_rows, kept_back}
 use Rattle.audit_core.proofs.audit.Core.give_back.Goals as goal
 

@@ -1,0 +1,12 @@
+pub mod Lists
+pub mod Order
+pub mod Firsts
+pub mod Tables
+pub mod Tests
+pub mod Unders
+pub mod Lookups
+pub mod TallyLaws
+pub mod Blocks
+pub mod MoreLess
+pub mod Failings
+pub mod Tallied

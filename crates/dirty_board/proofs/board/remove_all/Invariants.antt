@@ -1,0 +1,6 @@
+use Rattle.std.proofs.Common.{◌≡◌, take}
+use Rattle.dirty_board.specs.Rooms.{without_pairs}
+use Rattle.dirty_board.proofs.board.remove_all.Given as goal
+
+abbrev pub invariant-loop-pair : goal.invariant-loop-pair
+invariant-loop-pair l = l.table ≡ without_pairs (take l.pair-index l.gone) l.fn.table

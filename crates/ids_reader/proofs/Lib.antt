@@ -1,0 +1,10 @@
+pub mod MembersLemmas
+pub mod ValuesLemmas
+pub mod ReadsLemmas
+pub mod SidesLemmas
+pub mod SpecificationsLemmas
+pub mod BytesLemmas
+pub mod SaysLemmas
+pub mod FacetForms
+pub mod SideForms
+pub mod Forms

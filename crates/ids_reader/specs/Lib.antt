@@ -1,0 +1,10 @@
+pub mod Reads
+pub mod Tables
+pub mod Members
+pub mod Conditions
+pub mod Values
+pub mod Facets
+pub mod Standing
+pub mod Sides
+pub mod Specifications
+pub mod Documents

@@ -1,0 +1,9 @@
+mod CutLemmas
+mod Texts
+mod Numbers
+mod Names
+mod Crews
+mod WritingLaws
+mod LineLaws
+mod ScriptLaws
+mod OrderLaws

@@ -1,0 +1,10 @@
+pub mod Lines
+pub mod Said
+pub mod LineForm
+pub mod LineGrammar
+pub mod Standing
+pub mod Faults
+pub mod Grammar
+pub mod Order
+pub mod Bytes
+pub mod Writing

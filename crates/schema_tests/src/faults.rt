@@ -44,15 +44,12 @@ const SCHEMAS: &[(Entities, u32, u32, &str)] = &[
 
 /// Adds an entity without attributes.
 fn add_entity(alloc: Global, out: &mut Vec<u8>, name: &str, parent: &str) -> Result<(), Memory> {
-    let (opening, closing) = if parent.is_empty() {
-        ("", "")
+    let text = if parent.is_empty() {
+        format!(in alloc; "ENTITY {name}; END_ENTITY;")?
     } else {
-        (" SUBTYPE OF (", ")")
+        format!(in alloc; "ENTITY {name} SUBTYPE OF ({parent}); END_ENTITY;")?
     };
-    for text in ["ENTITY ", name, opening, parent, closing, "; END_ENTITY;"] {
-        add(alloc, out, text, 0)?;
-    }
-    Ok(())
+    add(alloc, out, text.as_str(), 0)
 }
 
 /// Adds the text for each number below this one.

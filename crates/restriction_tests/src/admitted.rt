@@ -4,6 +4,8 @@ use crate::made::Sample::{
 use crate::made::{Parts, Sample, built, sees};
 use ifc_base::Name;
 use restrictions::Restriction;
+use std::alloc::Global;
+use std::process::Abort;
 use std::test::Fail;
 
 #[test]
@@ -409,16 +411,20 @@ const TEXTS: [(Parts, Sample, bool); 36] = [
     ),
 ];
 
+/// Each condition of these rows admits the value, or doesn't.
+fn all_seen(rt: &impl Abort, alloc: Global, rows: &[(Parts, Sample, bool)]) -> Result<(), Fail> {
+    for (parts, value, wanted) in rows {
+        let condition = built(rt, alloc, parts)?;
+        sees(rt, alloc, &condition, *value, *wanted)?;
+    }
+    Ok(())
+}
+
 #[test]
 fn restrictions_of_values(rt: HostRuntime) -> Result<(), Fail> {
     let alloc = rt.alloc();
-    for rows in [BOUNDS.as_slice(), TEXTS.as_slice()] {
-        for (parts, value, wanted) in rows {
-            let condition = built(&rt, alloc, parts)?;
-            sees(&rt, alloc, &condition, *value, *wanted)?;
-        }
-    }
-    Ok(())
+    all_seen(&rt, alloc, BOUNDS.as_slice())?;
+    all_seen(&rt, alloc, TEXTS.as_slice())
 }
 
 #[test]

@@ -18,10 +18,6 @@ pub mod ChangeLaws
 pub mod PairOrder
 pub mod DanglingLaws
 pub mod OrderLemmas
-mod RunExamples
-pub mod RunLaws
-pub mod RunLegal
-pub mod Telling
 pub mod ClosureLaws
 pub mod Rows
 mod Row15

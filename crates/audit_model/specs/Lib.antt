@@ -1,5 +1,6 @@
 pub mod Models
 pub mod Asked
+pub mod Journals
 pub mod Keys
 pub mod Agree
 pub mod Reading
@@ -23,9 +24,3 @@ pub mod Machine
 pub mod Laws
 pub mod FacetLaws
 pub mod Drain
-pub mod ScriptLines
-pub mod Serial
-pub mod Output
-pub mod ScriptOrder
-pub mod Telling
-pub mod RunLaws

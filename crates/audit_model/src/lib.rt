@@ -5,11 +5,11 @@
 
 mod commit;
 mod facet;
+mod journal;
 mod laws;
 mod look;
 mod order;
 mod report;
-mod run_laws;
 mod script;
 mod specification;
 mod step;
@@ -20,6 +20,7 @@ pub use facet::{
     AttributeFacet, ClassificationFacet, EntityFacet, Facet, Facets, MaterialFacet, PartOfFacet,
     PropertyFacet, Relation,
 };
+pub use journal::Journal;
 pub use laws::{
     calls_determine, closure_law, dangling_is_least, drain_follows, drain_of_file,
     earlier_models_stay, hop_law, last_change_is_last, models_ascend, needs_are_enough,
@@ -31,10 +32,9 @@ pub use look::Look;
 pub use order::in_order;
 pub use report::{Failing, Failings, ReportText, Tally, Texts};
 pub use restrictions::Restriction;
-pub use run_laws::{drain_ends, drain_is_done, output_is_told, serial_is_legal, sync_drains_file};
 pub use script::{Act, Phase, Phases, ScriptLine, ScriptLines};
 pub use specification::{
     Cardinality, Occurs, Requirement, Requirements, Specification, Specifications,
 };
-pub use step::{Call, Given, Journal, Limits, Reply, StepRec};
+pub use step::{Call, Given, Limits, Reply, StepRec};
 pub use verdict::{Pair, Verdict, Weighed};

@@ -2,7 +2,7 @@ ghost use Rattle.std.specs.Prelude.{◌≡◌};
 
 use crate::commit::{CommitRefusal, Edits};
 use crate::verdict::Pair;
-use ifc_base::{Key, Listed, Memory, TryCopy};
+use ifc_base::{Key, Memory, TryCopy};
 use std::alloc::Global;
 
 /// What an actor asks of the core.
@@ -77,9 +77,6 @@ pub struct Given {
     pub pair: Pair,
     pub revision: u32,
 }
-
-/// Entries in the order in which they were made.
-pub type Journal = Listed<StepRec>;
 
 /// The most entries of a journal, the last revision, and the most instances of a model.
 #[derive(Clone, Copy, Debug, PartialEq, Eq)]

@@ -8,7 +8,7 @@ use Rattle.audit_model.specs.declared.step.Reply.{Reply}
 use Rattle.audit_model.specs.declared.step.Reply.TheVariants as reply
 use Rattle.audit_model.specs.History.{Ground, out, claim_numbered}
 use Rattle.audit_model.specs.Machine.{deliver_reply, is_full}
-use Rattle.audit_model.specs.ScriptLines.{entry}
+use Rattle.script_rules.specs.ScriptLines.{entry}
 use Rattle.model_view.specs.Views.{ClaimView, DraftView, SnapshotView}
 use Rattle.model_view.specs.declared.answers.NotPrepared.{NotPrepared}
 use Rattle.model_view.specs.declared.answers.NotPrepared.TheVariants as unprepared

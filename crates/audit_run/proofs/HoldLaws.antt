@@ -18,7 +18,7 @@ use Rattle.audit_model.proofs.Claims.{IsSound, sound_out}
 use Rattle.audit_model.proofs.Commits.{model_of-last}
 use Rattle.audit_model.proofs.HistoryLaws.{earlier_models_stay}
 use Rattle.audit_model.proofs.Numbers.{out_numbers, claim_number}
-use Rattle.audit_model.proofs.RunLegal.{revision_grows}
+use Rattle.script_rules.proofs.RunLegal.{revision_grows}
 use Rattle.audit_model.proofs.Tests.{Each, Each-found, or_true, Each-all}
 use Rattle.model_view.specs.Views.{ClaimView}
 use Rattle.model_view.specs.Answers.{given_of, IsNow}

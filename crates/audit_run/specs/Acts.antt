@@ -8,7 +8,7 @@ use Rattle.audit_model.specs.declared.step.Reply.TheVariants as reply
 use Rattle.audit_model.specs.declared.step.StepRec.{StepRec}
 use Rattle.audit_model.specs.History.{Ground, revision}
 use Rattle.audit_model.specs.Machine.{claim_reply, commit_reply, deliver_reply, publish_reply, is_full}
-use Rattle.audit_model.specs.ScriptLines.{entry}
+use Rattle.script_rules.specs.ScriptLines.{entry}
 use Rattle.model_view.specs.Views.{ClaimView, SnapshotView}
 use Rattle.model_view.specs.Answers.{given_of, IsNow}
 use Rattle.audit_run.specs.declared.calls.Act.{Act}

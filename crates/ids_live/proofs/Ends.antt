@@ -15,9 +15,9 @@ use Rattle.audit_model.specs.declared.step.Limits.{Limits}
 use Rattle.audit_model.specs.History.{out}
 use Rattle.audit_model.specs.Machine.{Legal}
 use Rattle.audit_model.specs.Models.{IsModel}
-use Rattle.audit_model.specs.Output.{output as text_of}
-use Rattle.audit_model.specs.ScriptLines.{free, own}
-use Rattle.audit_model.specs.Serial.{serial as history_of, meets_full as is_filled}
+use Rattle.script_rules.specs.Output.{output as text_of}
+use Rattle.script_rules.specs.ScriptLines.{free, own}
+use Rattle.script_rules.specs.Serial.{serial as history_of, meets_full as is_filled}
 use Rattle.serial_run.specs.declared.run.End.{End}
 use Rattle.serial_run.specs.declared.run.End.TheVariants as ending
 use Rattle.serial_run.specs.declared.run.Ran.{Ran}

@@ -3,7 +3,7 @@ use Rattle.std.specs.Prelude.{◌≡◌, List}
 use Rattle.audit_model.specs.declared.script.Phase.{Phase}
 use Rattle.audit_model.specs.History.{Ground}
 use Rattle.audit_model.specs.Models.{IsModel}
-use Rattle.audit_model.specs.ScriptOrder.{AreOrderly}
+use Rattle.script_rules.specs.ScriptOrder.{AreOrderly}
 use Rattle.audit_model.specs.Specifications.{AreSpecifications}
 use Rattle.ids_live.specs.Forms.{limits}
 

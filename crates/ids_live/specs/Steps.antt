@@ -2,8 +2,8 @@
 use Rattle.std.specs.Prelude.{ℕ, ◌<◌, Bool, List, length, take, Option}
 use Rattle.shelf_io.specs.Pieces.{Appended}
 use Rattle.audit_model.specs.declared.step.StepRec.{StepRec}
-use Rattle.audit_model.specs.Output.{output as text_of}
-use Rattle.audit_model.specs.Serial.{serial as history_of, meets_full as is_filled}
+use Rattle.script_rules.specs.Output.{output as text_of}
+use Rattle.script_rules.specs.Serial.{serial as history_of, meets_full as is_filled}
 use Rattle.serial_run.specs.declared.run.End.{End}
 use Rattle.serial_run.specs.declared.run.End.TheVariants as ending
 use Rattle.ids_live.specs.Forms.{Loaded}

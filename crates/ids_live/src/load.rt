@@ -2,7 +2,7 @@
 ghost use Rattle.std.specs.Prelude.{◌≡◌, ◌<◌, [], IfOk, IfErr};
 ghost use Rattle.std.specs.Str.{chars};
 ghost use Rattle.audit_model.specs.Models.{IsModel};
-ghost use Rattle.audit_model.specs.ScriptOrder.{AreOrderly};
+ghost use Rattle.script_rules.specs.ScriptOrder.{AreOrderly};
 ghost use Rattle.audit_model.specs.Specifications.{AreSpecifications};
 ghost use Rattle.reading.specs.Lines.{Answers};
 ghost use Rattle.shelf_io.specs.Pieces.{IsMissing};

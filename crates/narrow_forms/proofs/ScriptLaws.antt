@@ -5,7 +5,7 @@ use Rattle.narrow_forms.proofs.Tools.{kept, passed}
 use Rattle.std.proofs.lemmas.Bool.{or_parts}
 use Rattle.std.specs.Prelude.{IfOk, option_and_then}
 use Rattle.ifc_base.specs.declared.memory.Refusal.{Refusal}
-use Rattle.audit_model.specs.ScriptOrder.{may_come, drafts_after, holds_after, IsOrderly, AreOrderly}
+use Rattle.script_rules.specs.ScriptOrder.{may_come, drafts_after, holds_after, IsOrderly, AreOrderly}
 use Rattle.audit_model.specs.declared.script.Act.{Act}
 use Rattle.audit_model.specs.declared.script.ScriptLine.{ScriptLine}
 use Rattle.audit_model.specs.declared.script.Phase.{Phase}

@@ -1,6 +1,6 @@
 -- A script, read line by line.
 use Rattle.std.specs.Prelude.{ℕ, ◌+◌, false, not, ◌||◌, List, [], ◌∷◌, ◌++◌, length, Option, Some, None, option_map, option_and_then, Result, Ok, Err, ◌==◌, nat_lt, if◌then◌else◌}
-use Rattle.audit_model.specs.ScriptOrder.{may_come, drafts_after, holds_after}
+use Rattle.script_rules.specs.ScriptOrder.{may_come, drafts_after, holds_after}
 use Rattle.audit_model.specs.declared.script.Act.{Act}
 use Rattle.audit_model.specs.declared.script.Act.TheVariants.{Begin, Change, Commit, Publish, Take, Give, Work}
 use Rattle.audit_model.specs.declared.script.Phase.{Phase}

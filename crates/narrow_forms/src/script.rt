@@ -1,7 +1,7 @@
 //! The script.
 
 ghost use Rattle.std.specs.Prelude.{◌≡◌, IfOk};
-ghost use Rattle.audit_model.specs.ScriptOrder as order;
+ghost use Rattle.script_rules.specs.ScriptOrder as order;
 ghost use Rattle.narrow_forms.specs.Answers.{Answers};
 ghost use Rattle.narrow_forms.specs.Number.{Reads};
 ghost use Rattle.narrow_forms.specs.Lines.{cut};

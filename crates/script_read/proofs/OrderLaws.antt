@@ -9,8 +9,8 @@ use Rattle.audit_model.specs.declared.script.Act.{Act}
 use Rattle.audit_model.specs.declared.script.Act.TheVariants.{Begin, Change, Commit, Publish, Take, Give, Work}
 use Rattle.audit_model.specs.declared.script.Phase.{Phase}
 use Rattle.audit_model.specs.declared.script.ScriptLine.{ScriptLine}
-use Rattle.audit_model.specs.ScriptLines as model
-use Rattle.audit_model.specs.ScriptOrder.{may_come, drafts_after, holds_after}
+use Rattle.script_rules.specs.ScriptLines as model
+use Rattle.script_rules.specs.ScriptOrder.{may_come, drafts_after, holds_after}
 use Rattle.ifc_base.specs.declared.memory.Refusal.{Refusal}
 use Rattle.reading.specs.declared.fault.Fault.{Fault}
 use Rattle.reading.proofs.Tools.{tested}

@@ -9,11 +9,11 @@ use Rattle.audit_model.specs.declared.step.Reply.{Reply}
 use Rattle.audit_model.specs.declared.step.Reply.TheVariants as reply
 use Rattle.audit_model.specs.History.{Ground, accepted, model_at, out, revision, commits}
 use Rattle.audit_model.specs.Machine.{Legal, claim_reply, is_full}
-use Rattle.audit_model.specs.ScriptLines.{Place, place, entry}
-use Rattle.audit_model.specs.Serial.{Done, done, ended, with_room, after_claim, rounds, commit_done}
+use Rattle.script_rules.specs.ScriptLines.{Place, place, entry}
+use Rattle.script_rules.specs.Serial.{Done, done, ended, with_room, after_claim, rounds, commit_done}
 use Rattle.audit_model.proofs.Claims.{IsSound, sound_out}
 use Rattle.audit_model.proofs.HistoryLaws.{earlier_models_stay}
-use Rattle.audit_model.proofs.RunLegal.{revision_grows}
+use Rattle.script_rules.proofs.RunLegal.{revision_grows}
 use Rattle.audit_model.proofs.Tests.{Each-found}
 use Rattle.model_view.specs.Views.{DraftView, FindingView}
 use Rattle.model_view.specs.declared.answers.Halt.{Halt}

@@ -14,11 +14,11 @@ use Rattle.audit_model.specs.declared.script.Act.TheVariants.{Begin, Change, Com
 use Rattle.audit_model.specs.declared.script.ScriptLine.{ScriptLine}
 use Rattle.audit_model.specs.History.{Ground, out, out_after, with_claim, without_claim}
 use Rattle.audit_model.specs.Machine.{is_full, pairs_now, publish_reply}
-use Rattle.audit_model.specs.Output.{ends_phase, is_report, entry_text, report_in}
-use Rattle.audit_model.specs.ScriptLines.{Place, entry, free}
-use Rattle.audit_model.specs.ScriptOrder.{IsOrderly, drafts_after, holds_after}
-use Rattle.audit_model.specs.Serial.{Done, done, ended, act_done, rounds, publish_done, drain_done, Run, moved, line_run, lines_run, sync_run}
-use Rattle.audit_model.specs.Telling.{Told, told, is_of_one_editor}
+use Rattle.script_rules.specs.Output.{ends_phase, is_report, entry_text, report_in}
+use Rattle.script_rules.specs.ScriptLines.{Place, entry, free}
+use Rattle.script_rules.specs.ScriptOrder.{IsOrderly, drafts_after, holds_after}
+use Rattle.script_rules.specs.Serial.{Done, done, ended, act_done, rounds, publish_done, drain_done, Run, moved, line_run, lines_run, sync_run}
+use Rattle.script_rules.specs.Telling.{Told, told, is_of_one_editor}
 use Rattle.serial_run.specs.Growth.{IsLater, returns, returned}
 use Rattle.serial_run.specs.Quiet.{AreQuiet, GoesOn}
 use Rattle.serial_run.specs.Runs.{ends}

@@ -12,10 +12,10 @@ use Rattle.audit_model.specs.Drain.{caller_entry, drain_from, drain_after, unset
 use Rattle.audit_model.specs.History.{Ground, out, given, revision, model_at}
 use Rattle.audit_model.specs.Machine.{publish_reply, is_full, pairs_now}
 use Rattle.audit_model.specs.Report.{audit_text}
-use Rattle.audit_model.specs.RunLaws.{DrainEnds}
-use Rattle.audit_model.specs.ScriptLines.{entry, free}
-use Rattle.audit_model.specs.Serial.{Done, done, ended, rounds, publish_done, drain_done}
-use Rattle.audit_model.specs.Telling.{Told, told, is_of_one_editor}
+use Rattle.script_rules.specs.RunLaws.{DrainEnds}
+use Rattle.script_rules.specs.ScriptLines.{entry, free}
+use Rattle.script_rules.specs.Serial.{Done, done, ended, rounds, publish_done, drain_done}
+use Rattle.script_rules.specs.Telling.{Told, told, is_of_one_editor}
 use Rattle.model_view.specs.declared.answers.Halt.{Halt}
 use Rattle.model_view.specs.declared.answers.Halt.TheVariants as halt
 use Rattle.audit_core.specs.Cores.{CoreView}

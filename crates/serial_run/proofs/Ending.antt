@@ -4,9 +4,9 @@ use Rattle.std.proofs.lemmas.List.{append_assoc}
 use Rattle.audit_model.specs.declared.step.StepRec.{StepRec}
 use Rattle.audit_model.specs.declared.step.Given.{Given}
 use Rattle.audit_model.specs.declared.script.ScriptLine.{ScriptLine}
-use Rattle.audit_model.specs.ScriptLines.{free}
-use Rattle.audit_model.specs.Serial.{Done, drain_done, Run, moved, lines_run, sync_run}
-use Rattle.audit_model.specs.Telling.{told}
+use Rattle.script_rules.specs.ScriptLines.{free}
+use Rattle.script_rules.specs.Serial.{Done, drain_done, Run, moved, lines_run, sync_run}
+use Rattle.script_rules.specs.Telling.{told}
 use Rattle.model_view.specs.declared.answers.Halt.{Halt}
 use Rattle.model_view.specs.declared.answers.Halt.TheVariants as halt
 use Rattle.audit_core.specs.Cores.{CoreView}

@@ -14,8 +14,8 @@ use Rattle.audit_model.specs.declared.script.ScriptLine.{ScriptLine}
 use Rattle.audit_model.specs.declared.script.Phase.{Phase}
 use Rattle.audit_model.specs.History.{Ground, revision, given, out}
 use Rattle.audit_model.specs.Machine.{claim_reply, claimed, least_claimable, is_full, pairs_now}
-use Rattle.audit_model.specs.ScriptLines.{Place, free, entry}
-use Rattle.audit_model.specs.Serial.{Done, done, ended, with_room, after_delivery, after_claim, rounds, commit_done, give_done, act_done, publish_done, drain_done, Run, fresh, moved, line_run, lines_run, sync_run, phases_run}
+use Rattle.script_rules.specs.ScriptLines.{Place, free, entry}
+use Rattle.script_rules.specs.Serial.{Done, done, ended, with_room, after_delivery, after_claim, rounds, commit_done, give_done, act_done, publish_done, drain_done, Run, fresh, moved, line_run, lines_run, sync_run, phases_run}
 use Rattle.serial_run.specs.Growth.{returns, returned}
 use Rattle.serial_run.specs.Runs.{script_history}
 use Rattle.serial_run.specs.Stopped.{FullIsLong}

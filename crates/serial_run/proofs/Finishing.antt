@@ -13,14 +13,14 @@ use Rattle.audit_model.specs.declared.step.StepRec.{StepRec}
 use Rattle.audit_model.specs.declared.script.Phase.{Phase}
 use Rattle.audit_model.specs.History.{Ground, out}
 use Rattle.audit_model.specs.Machine.{Legal}
-use Rattle.audit_model.specs.Output.{ends_phase, entry_text, report_in, output}
+use Rattle.script_rules.specs.Output.{ends_phase, entry_text, report_in, output}
 use Rattle.audit_model.specs.Report.{audit_text, report_text, all_pass, line, pass_word, tallies_lines}
-use Rattle.audit_model.specs.RunLaws.{OutputIsTold}
+use Rattle.script_rules.specs.RunLaws.{OutputIsTold}
 use Rattle.audit_model.specs.Scratch.{scratch}
-use Rattle.audit_model.specs.ScriptLines.{free}
-use Rattle.audit_model.specs.ScriptOrder.{AreOrderly}
-use Rattle.audit_model.specs.Serial.{Run, fresh, lines_run, sync_run, phases_run, serial}
-use Rattle.audit_model.specs.Telling.{Told, told, is_of_one_editor}
+use Rattle.script_rules.specs.ScriptLines.{free}
+use Rattle.script_rules.specs.ScriptOrder.{AreOrderly}
+use Rattle.script_rules.specs.Serial.{Run, fresh, lines_run, sync_run, phases_run, serial}
+use Rattle.script_rules.specs.Telling.{Told, told, is_of_one_editor}
 use Rattle.audit_core.specs.Cores.{CoreView}
 use Rattle.serial_run.specs.Growth.{IsLater, returns, returned}
 use Rattle.serial_run.specs.Turns.{IsFree}

@@ -18,12 +18,12 @@ use Rattle.audit_model.specs.Pairs.{NumberedFrom}
 use Rattle.audit_model.specs.History.{Ground, revision, given, out, with_claim, claim_numbered}
 use Rattle.audit_model.specs.Machine.{Legal, claim_reply, claimed, deliver_reply, publish_reply, commit_reply, least_claimable, is_full}
 use Rattle.audit_model.specs.Drain.{caller_entry, drain_from, drain_after, unsettled}
-use Rattle.audit_model.specs.ScriptLines.{Place, place, free, number_in, entry, commit_of, deliver_of, Turns, Rounds, Does, FollowsFrom, own}
-use Rattle.audit_model.specs.ScriptOrder.{IsOrderly, AreOrderly, may_come, drafts_after, holds_after}
-use Rattle.audit_model.specs.Serial.{Done, done, ended, with_room, given_to, with_delivery, after_delivery, after_claim, rounds, commit_done, give_done, act_done, drain_done, Run, fresh, moved, line_run, lines_run, sync_run, phases_run, serial}
+use Rattle.script_rules.specs.ScriptLines.{Place, place, free, number_in, entry, commit_of, deliver_of, Turns, Rounds, Does, FollowsFrom, own}
+use Rattle.script_rules.specs.ScriptOrder.{IsOrderly, AreOrderly, may_come, drafts_after, holds_after}
+use Rattle.script_rules.specs.Serial.{Done, done, ended, with_room, given_to, with_delivery, after_delivery, after_claim, rounds, commit_done, give_done, act_done, drain_done, Run, fresh, moved, line_run, lines_run, sync_run, phases_run, serial}
 use Rattle.audit_model.proofs.DrainLaws.{drain_follows, legal_older, turned}
-use Rattle.audit_model.proofs.RunLaws.{drain_ends}
-use Rattle.audit_model.proofs.RunLegal.{serial_is_legal}
+use Rattle.script_rules.proofs.RunLaws.{drain_ends}
+use Rattle.script_rules.proofs.RunLegal.{serial_is_legal}
 use Rattle.serial_run.specs.Growth.{IsLater}
 use Rattle.serial_run.specs.Phased.{AllBy, EndsReported, IsPhaseOf, ArePhases, ScriptIsPhased}
 use Rattle.serial_run.proofs.Growing.{sync_grows, phases_grow}

@@ -13,8 +13,8 @@ use Rattle.audit_model.specs.declared.script.ScriptLine.{ScriptLine}
 use Rattle.audit_model.specs.declared.script.Phase.{Phase}
 use Rattle.audit_model.specs.History.{Ground, out, claim_numbered}
 use Rattle.audit_model.specs.Machine.{claim_reply, is_full, pairs_now}
-use Rattle.audit_model.specs.ScriptLines.{Place, entry, free}
-use Rattle.audit_model.specs.Serial.{Done, ended, with_room, given_to, with_delivery, after_delivery, after_claim, rounds, commit_done, give_done, act_done, publish_done, drain_done, Run, line_run, lines_run, sync_run, phases_run}
+use Rattle.script_rules.specs.ScriptLines.{Place, entry, free}
+use Rattle.script_rules.specs.Serial.{Done, ended, with_room, given_to, with_delivery, after_delivery, after_claim, rounds, commit_done, give_done, act_done, publish_done, drain_done, Run, line_run, lines_run, sync_run, phases_run}
 use Rattle.serial_run.specs.Growth.{IsLater}
 
 pub same : (h : List StepRec) → IsLater h h

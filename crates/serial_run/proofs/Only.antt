@@ -17,11 +17,11 @@ use Rattle.audit_model.specs.Pairs.{NumberedFrom}
 use Rattle.audit_model.specs.History.{Ground, revision, out, claim_numbered}
 use Rattle.audit_model.specs.Machine.{Legal, claim_reply, commit_reply, deliver_reply, publish_reply, is_full}
 use Rattle.audit_model.specs.Drain.{drain_after}
-use Rattle.audit_model.specs.ScriptLines.{Place, place, free, number_in, entry, commit_of, deliver_of, Turns, Rounds, Does, FollowsFrom, own}
-use Rattle.audit_model.specs.ScriptOrder.{IsOrderly, AreOrderly, may_come}
-use Rattle.audit_model.specs.Serial.{Done, done, ended, with_room, after_delivery, after_claim, rounds, commit_done, give_done, act_done, Run, fresh, moved, line_run, lines_run, sync_run, phases_run}
+use Rattle.script_rules.specs.ScriptLines.{Place, place, free, number_in, entry, commit_of, deliver_of, Turns, Rounds, Does, FollowsFrom, own}
+use Rattle.script_rules.specs.ScriptOrder.{IsOrderly, AreOrderly, may_come}
+use Rattle.script_rules.specs.Serial.{Done, done, ended, with_room, after_delivery, after_claim, rounds, commit_done, give_done, act_done, Run, fresh, moved, line_run, lines_run, sync_run, phases_run}
 use Rattle.audit_model.proofs.DrainLaws.{drain_follows, legal_older, turned}
-use Rattle.audit_model.proofs.RunLegal.{serial_is_legal}
+use Rattle.script_rules.proofs.RunLegal.{serial_is_legal}
 use Rattle.serial_run.specs.Phased.{IsPhaseOf, ArePhases, OnlySerial}
 use Rattle.serial_run.proofs.Growing.{phases_grow}
 use Rattle.serial_run.proofs.Turning.{none_left}

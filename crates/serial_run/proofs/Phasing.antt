@@ -12,10 +12,10 @@ use Rattle.audit_model.specs.declared.script.ScriptLine.{ScriptLine}
 use Rattle.audit_model.specs.declared.script.Phase.{Phase}
 use Rattle.audit_model.specs.History.{Ground, out}
 use Rattle.audit_model.specs.Machine.{is_full}
-use Rattle.audit_model.specs.ScriptLines.{Place, place, free, drafted}
-use Rattle.audit_model.specs.ScriptOrder.{IsOrderly, drafts_after, holds_after}
-use Rattle.audit_model.specs.Serial.{Done, ended, with_room, act_done, commit_done, give_done, rounds, Run, moved, placed, line_run, lines_run, sync_run, phases_run, drain_done}
-use Rattle.audit_model.specs.Telling.{told, is_of_one_editor}
+use Rattle.script_rules.specs.ScriptLines.{Place, place, free, drafted}
+use Rattle.script_rules.specs.ScriptOrder.{IsOrderly, drafts_after, holds_after}
+use Rattle.script_rules.specs.Serial.{Done, ended, with_room, act_done, commit_done, give_done, rounds, Run, moved, placed, line_run, lines_run, sync_run, phases_run, drain_done}
+use Rattle.script_rules.specs.Telling.{told, is_of_one_editor}
 use Rattle.model_view.specs.Views.{DraftView}
 use Rattle.model_view.specs.declared.answers.Halt.{Halt}
 use Rattle.model_view.specs.declared.answers.Halt.TheVariants as halt

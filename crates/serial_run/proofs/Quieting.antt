@@ -16,10 +16,10 @@ use Rattle.audit_model.specs.declared.script.Act.{Act}
 use Rattle.audit_model.specs.declared.script.Act.TheVariants.{Begin, Change, Commit, Publish, Take, Give, Work}
 use Rattle.audit_model.specs.History.{Ground, revision, out, claim_numbered}
 use Rattle.audit_model.specs.Machine.{claim_reply, deliver_reply, commit_reply, claimed, delivered, committed, least_claimable, least_changed, is_full}
-use Rattle.audit_model.specs.Output.{entry_text, is_report, report_in, ends_phase}
-use Rattle.audit_model.specs.ScriptLines.{Place, entry, free}
-use Rattle.audit_model.specs.Serial.{Done, done, ended, with_room, given_to, with_delivery, after_delivery, after_claim, rounds, commit_done, give_done, act_done}
-use Rattle.audit_model.specs.Telling.{Told, told, told_more, is_of_one_editor}
+use Rattle.script_rules.specs.Output.{entry_text, is_report, report_in, ends_phase}
+use Rattle.script_rules.specs.ScriptLines.{Place, entry, free}
+use Rattle.script_rules.specs.Serial.{Done, done, ended, with_room, given_to, with_delivery, after_delivery, after_claim, rounds, commit_done, give_done, act_done}
+use Rattle.script_rules.specs.Telling.{Told, told, told_more, is_of_one_editor}
 use Rattle.serial_run.specs.Lines.{entry_line, entry_lines}
 use Rattle.serial_run.specs.Quiet.{AreQuiet, GoesOn}
 

@@ -9,10 +9,10 @@ use Rattle.audit_model.specs.declared.script.Act.{Act}
 use Rattle.audit_model.specs.declared.script.Act.TheVariants.{Begin, Change, Commit, Publish, Take, Give, Work}
 use Rattle.audit_model.specs.History.{Ground}
 use Rattle.audit_model.specs.Machine.{publish_reply, is_full}
-use Rattle.audit_model.specs.Output.{report_in}
-use Rattle.audit_model.specs.ScriptLines.{Place, entry}
-use Rattle.audit_model.specs.Serial.{Done, done, ended, act_done}
-use Rattle.audit_model.specs.Telling.{Told, told, is_of_one_editor}
+use Rattle.script_rules.specs.Output.{report_in}
+use Rattle.script_rules.specs.ScriptLines.{Place, entry}
+use Rattle.script_rules.specs.Serial.{Done, done, ended, act_done}
+use Rattle.script_rules.specs.Telling.{Told, told, is_of_one_editor}
 use Rattle.audit_core.specs.Cores.{CoreView}
 use Rattle.serial_run.specs.declared.editor.Editor.{Editor}
 use Rattle.model_view.specs.declared.answers.Halt.TheVariants as halt

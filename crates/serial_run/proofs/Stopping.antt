@@ -18,10 +18,10 @@ use Rattle.audit_model.specs.Models.{IsModel}
 use Rattle.audit_model.specs.Pairs.{NumberedFrom}
 use Rattle.audit_model.specs.History.{Ground, revision, given, out, claim_numbered}
 use Rattle.audit_model.specs.Machine.{Legal, claim_reply, claimed, publish_reply, least_claimable, is_full, pairs_now}
-use Rattle.audit_model.specs.ScriptLines.{Place, place, free, entry, Rounds, Does, own}
-use Rattle.audit_model.specs.ScriptOrder.{IsOrderly, AreOrderly, may_come}
-use Rattle.audit_model.specs.Serial.{Done, done, ended, with_room, given_to, with_delivery, after_delivery, after_claim, rounds, commit_done, give_done, act_done, publish_done, drain_done, Run, fresh, moved, lines_run, sync_run, phases_run}
-use Rattle.audit_model.proofs.RunLegal.{serial_is_legal}
+use Rattle.script_rules.specs.ScriptLines.{Place, place, free, entry, Rounds, Does, own}
+use Rattle.script_rules.specs.ScriptOrder.{IsOrderly, AreOrderly, may_come}
+use Rattle.script_rules.specs.Serial.{Done, done, ended, with_room, given_to, with_delivery, after_delivery, after_claim, rounds, commit_done, give_done, act_done, publish_done, drain_done, Run, fresh, moved, lines_run, sync_run, phases_run}
+use Rattle.script_rules.proofs.RunLegal.{serial_is_legal}
 use Rattle.serial_run.specs.Growth.{IsLater, returns, returned}
 use Rattle.serial_run.specs.Stopped.{held_number, StopsInRounds, StopsInLine, StopsFrom, StopsInDrain, back_of, AreStopped, StopIsPhased}
 use Rattle.serial_run.proofs.Growing.{joined, lines_grow, sync_grows, phases_grow, rounds_grow}

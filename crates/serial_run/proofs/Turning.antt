@@ -10,8 +10,8 @@ use Rattle.audit_model.specs.declared.step.Reply.TheVariants as reply
 use Rattle.audit_model.specs.declared.specification.Specification.{Specification}
 use Rattle.audit_model.specs.History.{Ground, commits, out, claim_numbered, without_claim}
 use Rattle.audit_model.specs.Machine.{Legal, claim_reply, is_full}
-use Rattle.audit_model.specs.ScriptLines.{Place, entry}
-use Rattle.audit_model.specs.Serial.{Done, done, ended, given_to, with_delivery, after_delivery, after_claim, rounds}
+use Rattle.script_rules.specs.ScriptLines.{Place, entry}
+use Rattle.script_rules.specs.Serial.{Done, done, ended, given_to, with_delivery, after_delivery, after_claim, rounds}
 use Rattle.audit_model.proofs.Commits.{model_of-last}
 use Rattle.audit_model.proofs.HistoryLaws.{same_some}
 use Rattle.model_view.specs.Answers.{IsGiven, IsTrue, given_of, delivery_told}

@@ -3,8 +3,8 @@ use Rattle.std.specs.Prelude.{◌≡◌, ℕ, true, false, List, [], Option, Som
 use Rattle.audit_model.specs.declared.step.StepRec.{StepRec}
 use Rattle.audit_model.specs.History.{out}
 use Rattle.audit_model.specs.Machine.{Legal, publish_reply}
-use Rattle.audit_model.specs.Output.{report_in}
-use Rattle.audit_model.specs.Serial.{Done}
+use Rattle.script_rules.specs.Output.{report_in}
+use Rattle.script_rules.specs.Serial.{Done}
 use Rattle.model_view.specs.declared.answers.Halt.{Halt}
 use Rattle.model_view.specs.declared.answers.Halt.TheVariants as halt
 use Rattle.audit_core.specs.Cores.{CoreView}

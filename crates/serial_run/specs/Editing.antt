@@ -5,7 +5,7 @@ use Rattle.audit_model.specs.declared.step.Given.{Given}
 use Rattle.audit_model.specs.declared.step.StepRec.{StepRec}
 use Rattle.audit_model.specs.History.{Ground, out, revision}
 use Rattle.audit_model.specs.Machine.{Legal}
-use Rattle.audit_model.specs.ScriptLines.{Place, place}
+use Rattle.script_rules.specs.ScriptLines.{Place, place}
 use Rattle.model_view.specs.Answers.{given_of}
 use Rattle.model_view.specs.Findings.{IsFindingOf}
 use Rattle.model_view.specs.Views.{DraftView, FindingView}

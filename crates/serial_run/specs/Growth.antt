@@ -5,7 +5,7 @@ use Rattle.audit_model.specs.declared.step.Reply.TheVariants as reply
 use Rattle.audit_model.specs.declared.step.StepRec.{StepRec}
 use Rattle.audit_model.specs.declared.step.Given.{Given}
 use Rattle.audit_model.specs.History.{out}
-use Rattle.audit_model.specs.ScriptLines.{entry}
+use Rattle.script_rules.specs.ScriptLines.{entry}
 
 -- the second history goes on from the first
 abbrev pub IsLater : List StepRec → List StepRec → Type 0

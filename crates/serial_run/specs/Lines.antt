@@ -3,7 +3,7 @@ use Rattle.std.specs.Prelude.{ℕ, List, [], ◌∷◌, ◌++◌, codes, flat_ma
 use Rattle.std.specs.Fmt.{decimal}
 use Rattle.audit_model.specs.declared.step.Limits.{Limits}
 use Rattle.audit_model.specs.declared.step.StepRec.{StepRec}
-use Rattle.audit_model.specs.Output.{reply_text}
+use Rattle.script_rules.specs.Output.{reply_text}
 use Rattle.audit_model.specs.Report.{line}
 
 -- the line of an entry: its actor's number, a blank and the words for the reply

@@ -11,9 +11,9 @@ use Rattle.audit_model.specs.Pairs.{NumberedFrom}
 use Rattle.audit_model.specs.History.{Ground}
 use Rattle.audit_model.specs.Machine.{Legal}
 use Rattle.audit_model.specs.Drain.{IsDrain, caller_entry}
-use Rattle.audit_model.specs.ScriptLines.{Follows, own}
-use Rattle.audit_model.specs.ScriptOrder.{AreOrderly}
-use Rattle.audit_model.specs.Serial.{serial, meets_full}
+use Rattle.script_rules.specs.ScriptLines.{Follows, own}
+use Rattle.script_rules.specs.ScriptOrder.{AreOrderly}
+use Rattle.script_rules.specs.Serial.{serial, meets_full}
 
 -- all of these entries are of this actor
 abbrev pub AllBy : ℕ → List StepRec → Type 0

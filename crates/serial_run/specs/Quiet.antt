@@ -1,7 +1,7 @@
 -- Histories that go on by entries of one actor that give no report.
 use Rattle.std.specs.Prelude.{◌≡◌, ℕ, false, List, [], ◌∷◌, ◌++◌}
 use Rattle.audit_model.specs.declared.step.StepRec.{StepRec}
-use Rattle.audit_model.specs.Output.{is_report}
+use Rattle.script_rules.specs.Output.{is_report}
 
 -- all of these entries are of this actor and give no report
 abbrev pub AreQuiet : ℕ → List StepRec → Type 0

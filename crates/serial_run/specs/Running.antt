@@ -6,10 +6,10 @@ use Rattle.audit_model.specs.Models.{IsModel}
 use Rattle.audit_model.specs.Pairs.{NumberedFrom}
 use Rattle.audit_model.specs.History.{Ground}
 use Rattle.audit_model.specs.declared.step.StepRec.{StepRec}
-use Rattle.audit_model.specs.Output.{ends_phase}
-use Rattle.audit_model.specs.ScriptLines.{Place, free}
-use Rattle.audit_model.specs.Serial.{Done, Run}
-use Rattle.audit_model.specs.Telling.{told, is_of_one_editor}
+use Rattle.script_rules.specs.Output.{ends_phase}
+use Rattle.script_rules.specs.ScriptLines.{Place, free}
+use Rattle.script_rules.specs.Serial.{Done, Run}
+use Rattle.script_rules.specs.Telling.{told, is_of_one_editor}
 use Rattle.model_view.specs.declared.answers.Halt.{Halt}
 use Rattle.audit_core.specs.Cores.{CoreView}
 use Rattle.serial_run.specs.declared.editor.Editor.{Editor}

@@ -7,8 +7,8 @@ use Rattle.audit_model.specs.declared.step.StepRec.{StepRec}
 use Rattle.audit_model.specs.declared.script.Phase.{Phase}
 use Rattle.audit_model.specs.History.{Ground, out}
 use Rattle.audit_model.specs.Machine.{Legal}
-use Rattle.audit_model.specs.Output.{ends_phase, output}
-use Rattle.audit_model.specs.Serial.{fresh, phases_run, serial, meets_full}
+use Rattle.script_rules.specs.Output.{ends_phase, output}
+use Rattle.script_rules.specs.Serial.{fresh, phases_run, serial, meets_full}
 use Rattle.serial_run.specs.declared.run.End.{End}
 use Rattle.serial_run.specs.declared.run.End.TheVariants as ending
 use Rattle.serial_run.specs.declared.run.Ran.{Ran}

@@ -3,8 +3,8 @@ use Rattle.std.specs.Prelude.{◌≡◌, ℕ, Bool, List, [], ◌∷◌, ◌++�
 use Rattle.audit_model.specs.declared.script.Act.{Act}
 use Rattle.audit_model.specs.declared.script.Act.TheVariants.{Begin, Change, Commit, Publish, Take, Give, Work}
 use Rattle.audit_model.specs.Machine.{publish_reply}
-use Rattle.audit_model.specs.Output.{report_in}
-use Rattle.audit_model.specs.Serial.{Done}
+use Rattle.script_rules.specs.Output.{report_in}
+use Rattle.script_rules.specs.Serial.{Done}
 use Rattle.model_view.specs.declared.answers.Halt.{Halt}
 use Rattle.audit_core.specs.Cores.{CoreView}
 use Rattle.serial_run.specs.declared.editor.Editor.{Editor}

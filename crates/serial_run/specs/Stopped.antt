@@ -12,10 +12,10 @@ use Rattle.audit_model.specs.declared.script.Phase.{Phase}
 use Rattle.audit_model.specs.Models.{IsModel}
 use Rattle.audit_model.specs.Pairs.{NumberedFrom}
 use Rattle.audit_model.specs.History.{Ground, out}
-use Rattle.audit_model.specs.ScriptLines.{Place, free, entry, Turns, Rounds, Does, Follows, own}
-use Rattle.audit_model.specs.ScriptOrder.{AreOrderly}
+use Rattle.script_rules.specs.ScriptLines.{Place, free, entry, Turns, Rounds, Does, Follows, own}
+use Rattle.script_rules.specs.ScriptOrder.{AreOrderly}
 use Rattle.serial_run.specs.Phased.{IsPhaseOf}
-use Rattle.audit_model.specs.Serial.{meets_full}
+use Rattle.script_rules.specs.Serial.{meets_full}
 use Rattle.serial_run.specs.Growth.{returned}
 use Rattle.serial_run.specs.Runs.{IsCut, script_history}
 

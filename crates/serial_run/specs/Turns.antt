@@ -6,8 +6,8 @@ use Rattle.audit_model.specs.declared.step.Reply.TheVariants as reply
 use Rattle.audit_model.specs.declared.step.StepRec.{StepRec}
 use Rattle.audit_model.specs.History.{out}
 use Rattle.audit_model.specs.Machine.{Legal, claim_reply, is_full}
-use Rattle.audit_model.specs.ScriptLines.{entry}
-use Rattle.audit_model.specs.Serial.{after_delivery}
+use Rattle.script_rules.specs.ScriptLines.{entry}
+use Rattle.script_rules.specs.Serial.{after_delivery}
 use Rattle.model_view.specs.Views.{FindingView}
 use Rattle.model_view.specs.declared.answers.Halt.{Halt}
 use Rattle.model_view.specs.declared.answers.Halt.TheVariants as halt

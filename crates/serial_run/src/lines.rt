@@ -1,6 +1,6 @@
 //! What each line of a script does on a core.
 ghost use Rattle.std.specs.Prelude.{◌≡◌, false};
-ghost use Rattle.audit_model.specs.Serial.{act_done};
+ghost use Rattle.script_rules.specs.Serial.{act_done};
 ghost use Rattle.audit_model.specs.Specifications.{AreSpecifications};
 ghost use Rattle.serial_run.specs.Editing.{WorksIn, is_holding, place_of};
 ghost use Rattle.serial_run.specs.Course.{LeavesEditor, Publishes};

@@ -1,8 +1,8 @@
 //! The phases of a script: the lines, and the drain at the end.
 ghost use Rattle.std.specs.Prelude.{◌≡◌, false};
-ghost use Rattle.audit_model.specs.ScriptLines.{free};
-ghost use Rattle.audit_model.specs.ScriptOrder.{IsOrderly};
-ghost use Rattle.audit_model.specs.Serial.{Run, drain_done, lines_run, sync_run};
+ghost use Rattle.script_rules.specs.ScriptLines.{free};
+ghost use Rattle.script_rules.specs.ScriptOrder.{IsOrderly};
+ghost use Rattle.script_rules.specs.Serial.{Run, drain_done, lines_run, sync_run};
 ghost use Rattle.audit_model.specs.Specifications.{AreSpecifications};
 ghost use Rattle.serial_run.specs.Running.{AtRun, Drains, IsSound, LeavesLinesTold, Phases};
 ghost use Rattle.serial_run.specs.Turns.{IsFree};
@@ -11,9 +11,10 @@ use crate::editor::{Editor, Held, let_go};
 use crate::steps::step;
 use crate::turns::rounds;
 use audit_core::Core;
-use audit_model::{Limits, Phase, ReportText, ScriptLines, drain_ends};
+use audit_model::{Limits, Phase, ReportText, ScriptLines};
 use ifc_base::Bytes;
 use model_view::{Assess, Halt, Published};
+use script_rules::drain_ends;
 use std::alloc::Global;
 use std::unreachable;
 

@@ -1,9 +1,9 @@
 //! A whole run of a script on a core.
 ghost use Rattle.std.specs.Prelude.{◌≡◌, ◌+◌, ℕ, [], if◌then◌else◌, length, reverse};
 ghost use Rattle.audit_model.specs.Machine.{Legal};
-ghost use Rattle.audit_model.specs.Output.{output};
-ghost use Rattle.audit_model.specs.ScriptOrder.{AreOrderly};
-ghost use Rattle.audit_model.specs.Serial.{serial};
+ghost use Rattle.script_rules.specs.Output.{output};
+ghost use Rattle.script_rules.specs.ScriptOrder.{AreOrderly};
+ghost use Rattle.script_rules.specs.Serial.{serial};
 ghost use Rattle.audit_model.specs.Specifications.{AreSpecifications};
 ghost use Rattle.serial_run.specs.Running.{IsSound};
 ghost use Rattle.serial_run.specs.Runs.{IsFinished, IsRan, IsWritten, ends_pass};
@@ -11,8 +11,9 @@ ghost use Rattle.serial_run.specs.declared.run.End.TheVariants as ending;
 
 use crate::phases::phase;
 use audit_core::{Core, CoreJournal};
-use audit_model::{Limits, Phases, output_is_told, serial_is_legal};
+use audit_model::{Limits, Phases};
 use model_view::{Assess, Halt};
+use script_rules::{output_is_told, serial_is_legal};
 use shelf_io::{Sink, write_all};
 use std::alloc::Global;
 

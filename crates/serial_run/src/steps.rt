@@ -1,7 +1,7 @@
 //! One line of a script, and what its editor is told of it.
 ghost use Rattle.std.specs.Prelude.{◌≡◌, ◌≤◌, ◌++◌, true, drop, length, reverse, OnOk};
-ghost use Rattle.audit_model.specs.ScriptOrder.{may_come};
-ghost use Rattle.audit_model.specs.Serial.{act_done};
+ghost use Rattle.script_rules.specs.ScriptOrder.{may_come};
+ghost use Rattle.script_rules.specs.Serial.{act_done};
 ghost use Rattle.audit_model.specs.Specifications.{AreSpecifications};
 ghost use Rattle.serial_run.specs.Editing.{WorksIn, is_drafting, is_holding, place_of};
 ghost use Rattle.serial_run.specs.Course.{text_in};

@@ -1,8 +1,8 @@
 //! The lines of entries: what an editor is told of each of its calls.
 ghost use Rattle.std.specs.Prelude.{◌≡◌, ◌++◌, codes, OnOk};
 ghost use Rattle.std.specs.Fmt.{decimal};
-ghost use Rattle.audit_model.specs.Output.{a_number, an_id, key_text, reply_text, role_word};
-ghost use Rattle.audit_model.specs.Output.{edit_fault_text, instance_fault_text, refusal_text};
+ghost use Rattle.script_rules.specs.Output.{a_number, an_id, key_text, reply_text, role_word};
+ghost use Rattle.script_rules.specs.Output.{edit_fault_text, instance_fault_text, refusal_text};
 ghost use Rattle.serial_run.specs.Lines.{entry_line, entry_lines};
 
 use audit_model::{CommitRefusal, EditFault, Limits, Pair, Reply, StepRec};

@@ -2,8 +2,8 @@
 ghost use Rattle.std.specs.Prelude.{◌≡◌, [], false, Some};
 ghost use Rattle.audit_model.specs.History.{out};
 ghost use Rattle.audit_model.specs.Machine.{Legal};
-ghost use Rattle.audit_model.specs.ScriptLines.{Place};
-ghost use Rattle.audit_model.specs.Serial.{rounds};
+ghost use Rattle.script_rules.specs.ScriptLines.{Place};
+ghost use Rattle.script_rules.specs.Serial.{rounds};
 ghost use Rattle.audit_model.specs.Specifications.{AreSpecifications};
 ghost use Rattle.serial_run.specs.Editing.{HoldsIn};
 ghost use Rattle.serial_run.specs.Turns.{IsFree, Takes, HandsIn, LeavesRound};

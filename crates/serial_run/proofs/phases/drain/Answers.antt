@@ -1,7 +1,7 @@
 use Rattle.std.proofs.Common.{◌≡◌, ◌+◌, suc, ap, length, arith, subst}
 use Rattle.std.proofs.lemmas.Result.{err_from_is_err_and}
 use Rattle.audit_model.specs.Machine.{pairs_now}
-use Rattle.audit_model.specs.ScriptLines.{free}
+use Rattle.script_rules.specs.ScriptLines.{free}
 use Rattle.serial_run.proofs.Draining.{drained, first_rounds, never_pending, publish_halted, rounds_halted, rounds_stopped}
 use Rattle.serial_run.proofs.phases.drain.Goals as goal
 

@@ -1,6 +1,6 @@
 use Rattle.std.proofs.Common.{◌≡◌, ◌∙◌, ap, ◌++◌, ℕ, List}
 use Rattle.std.proofs.lemmas.Result.{err_from_is_err_and}
-use Rattle.audit_model.specs.Serial.{lines_run}
+use Rattle.script_rules.specs.Serial.{lines_run}
 use Rattle.serial_run.proofs.Growing.{lines_grow}
 use Rattle.serial_run.proofs.Ending.{any_run, at_any, stopped_in_lines, stopped_in_drain, phase_done, phase_unmade}
 use Rattle.serial_run.proofs.phases.phase.Goals as goal

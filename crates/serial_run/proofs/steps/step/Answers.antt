@@ -1,6 +1,6 @@
 use Rattle.std.proofs.Common.{◌≡◌, ap, List, length}
 use Rattle.audit_model.specs.declared.step.StepRec.{StepRec}
-use Rattle.audit_model.specs.Serial.{act_done}
+use Rattle.script_rules.specs.Serial.{act_done}
 use Rattle.serial_run.specs.Course.{text_in}
 use Rattle.serial_run.specs.Editing.{place_of}
 use Rattle.serial_run.proofs.Growing.{act_grows}

@@ -1,5 +1,5 @@
 //! Laws of the runs of scripts. Each function does nothing: its contract is the law.
-ghost use Rattle.audit_model.specs.RunLaws.{DrainEnds, DrainIsDone, OutputIsTold, SerialIsLegal, SyncDrainsFile};
+ghost use Rattle.script_rules.specs.RunLaws.{DrainEnds, DrainIsDone, OutputIsTold, SerialIsLegal, SyncDrainsFile};
 
 /// After a legal history in which no claim is out, the drain at the end of a phase is the only legal
 /// one, where the limit of steps has room for it.

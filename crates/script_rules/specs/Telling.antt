@@ -4,7 +4,7 @@ use Rattle.std.specs.Prelude.{ℕ, Bool, ◌==◌, nat_le, List, [], ◌∷◌, 
 use Rattle.std.specs.List.{list_all}
 use Rattle.audit_model.specs.declared.step.StepRec.{StepRec}
 use Rattle.audit_model.specs.History.{Ground}
-use Rattle.audit_model.specs.Output.{ends_phase, entry_text, report_in}
+use Rattle.script_rules.specs.Output.{ends_phase, entry_text, report_in}
 
 -- the text of the whole phases, and the lines behind them
 pub record Told : Type 0 where

@@ -14,7 +14,7 @@ use Rattle.audit_model.specs.declared.script.ScriptLine.{ScriptLine}
 use Rattle.audit_model.specs.declared.script.Phase.{Phase}
 use Rattle.audit_model.specs.History.{Ground, revision, out, claim_numbered}
 use Rattle.audit_model.specs.Machine.{pairs_now, claim_reply, deliver_reply, publish_reply, commit_reply, is_full}
-use Rattle.audit_model.specs.ScriptLines.{Place, place, free, drafted, number_in, entry}
+use Rattle.script_rules.specs.ScriptLines.{Place, place, free, drafted, number_in, entry}
 
 -- What a line leads to: the history after it, what its editor then has, and whether the history ended before a call that would be
 -- answered Full.

@@ -14,10 +14,10 @@ use Rattle.audit_model.specs.declared.step.Reply.{Reply}
 use Rattle.audit_model.specs.declared.step.Reply.TheVariants.{Began, Accepted, Refused, Claimed, Idle, Used, Stale, Back, Pending, Report}
 use Rattle.audit_model.specs.History.{Ground, revision}
 use Rattle.audit_model.specs.Machine.{Answers, MayFollow, Legal, committed, claimed, delivered, published}
-use Rattle.audit_model.specs.Output.{entry_text, reply_text, editor_text, ends_phase, is_report, report_in, phase_text, with_entry, whole_phases}
+use Rattle.script_rules.specs.Output.{entry_text, reply_text, editor_text, ends_phase, is_report, report_in, phase_text, with_entry, whole_phases}
 use Rattle.audit_model.specs.Report.{audit_text, line}
-use Rattle.audit_model.specs.Telling.{Told, told, told_more, is_of_one_editor}
-use Rattle.audit_model.specs.RunLaws.{OutputIsTold}
+use Rattle.script_rules.specs.Telling.{Told, told, told_more, is_of_one_editor}
+use Rattle.script_rules.specs.RunLaws.{OutputIsTold}
 use Rattle.audit_model.proofs.HistoryLaws.{earlier_models_stay}
 use Rattle.audit_model.proofs.Tests.{Each}
 

@@ -16,9 +16,9 @@ use Rattle.audit_model.specs.declared.script.ScriptLine.{ScriptLine}
 use Rattle.audit_model.specs.declared.script.Phase.{Phase}
 use Rattle.audit_model.specs.History.{Ground, accepted, commits, revision, out, claim_numbered}
 use Rattle.audit_model.specs.Machine.{MayFollow, Legal, claim_reply, deliver_reply, is_full, pairs_now}
-use Rattle.audit_model.specs.ScriptLines.{Place, free, drafted, entry}
-use Rattle.audit_model.specs.Serial.{Done, done, ended, with_room, given_to, with_delivery, after_delivery, after_claim, rounds, commit_done, give_done, act_done, publish_done, drain_done, Run, fresh, moved, line_run, lines_run, sync_run, phases_run}
-use Rattle.audit_model.specs.RunLaws.{SerialIsLegal}
+use Rattle.script_rules.specs.ScriptLines.{Place, free, drafted, entry}
+use Rattle.script_rules.specs.Serial.{Done, done, ended, with_room, given_to, with_delivery, after_delivery, after_claim, rounds, commit_done, give_done, act_done, publish_done, drain_done, Run, fresh, moved, line_run, lines_run, sync_run, phases_run}
+use Rattle.script_rules.specs.RunLaws.{SerialIsLegal}
 
 -- Drafts are of a revision so far.
 

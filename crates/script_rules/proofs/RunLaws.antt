@@ -16,10 +16,10 @@ use Rattle.audit_model.specs.Report.{audit_text}
 use Rattle.audit_model.specs.History.{Ground, pairs_in, model_of, model_at, commits, revision, out, given, without_claim}
 use Rattle.audit_model.specs.Machine.{Legal, Holds, deliver_reply, is_full, pairs_now}
 use Rattle.audit_model.specs.Drain.{caller_entry, drain_from, drain, unsettled, drain_after}
-use Rattle.audit_model.specs.ScriptLines.{free}
-use Rattle.audit_model.specs.Serial.{Done, done, ended, with_room, given_to, with_delivery, after_delivery, after_claim, rounds, and_then, publish_done, drain_done}
-use Rattle.audit_model.specs.Output.{entry_text, editor_text, editors, ends_phase, report_in, phase_text, with_entry, whole_phases, output}
-use Rattle.audit_model.specs.RunLaws.{HasRoomToDrain, SyncDrainsFile, DrainIsDone, DrainEnds}
+use Rattle.script_rules.specs.ScriptLines.{free}
+use Rattle.script_rules.specs.Serial.{Done, done, ended, with_room, given_to, with_delivery, after_delivery, after_claim, rounds, and_then, publish_done, drain_done}
+use Rattle.script_rules.specs.Output.{entry_text, editor_text, editors, ends_phase, report_in, phase_text, with_entry, whole_phases, output}
+use Rattle.script_rules.specs.RunLaws.{HasRoomToDrain, SyncDrainsFile, DrainIsDone, DrainEnds}
 use Rattle.audit_model.proofs.DrainLaws.{drain_follows, drain_of_file, AllMayFollow, turned, legal_split}
 use Rattle.audit_model.proofs.Tests.{Each, filter-length}
 

@@ -16,7 +16,7 @@ use Rattle.schema_table.specs.declared.fault.InstanceFault.TheVariants.{UnknownE
 use Rattle.audit_model.specs.declared.commit.EditFault.TheVariants.{IdTaken, NoInstance, NoAttribute, Schema, TooManyInstances}
 use Rattle.audit_model.specs.declared.commit.CommitRefusal.TheVariants.{RevisionsFull, Edit as EditRefused, Dangling}
 use Rattle.audit_model.specs.declared.step.StepRec.{StepRec}
-use Rattle.audit_model.specs.ScriptLines.{place, free, entry, Follows}
+use Rattle.script_rules.specs.ScriptLines.{place, free, entry, Follows}
 use Rattle.audit_model.specs.declared.script.Act.{Act}
 use Rattle.audit_model.specs.declared.script.Act.TheVariants.{Begin, Change, Commit, Publish, Take, Give, Work}
 use Rattle.audit_model.specs.declared.script.Phase.{Phase}
@@ -33,8 +33,8 @@ use Rattle.schema_table.specs.Schema.{attributes, place_of}
 use Rattle.schema_table.specs.Faults.{instance_fault}
 use Rattle.audit_model.specs.Judging.{judge}
 use Rattle.audit_model.specs.History.{Ground}
-use Rattle.audit_model.specs.Serial.{serial, meets_full}
-use Rattle.audit_model.specs.Output.{reply_text, output}
+use Rattle.script_rules.specs.Serial.{serial, meets_full}
+use Rattle.script_rules.specs.Output.{reply_text, output}
 use Rattle.restrictions.specs.declared.condition.Condition.TheVariants.{Simple}
 
 abbrev wall : ℕ → Instance

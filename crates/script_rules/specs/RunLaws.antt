@@ -8,10 +8,10 @@ use Rattle.audit_model.specs.Report.{audit_text}
 use Rattle.audit_model.specs.History.{Ground, pairs_in, out}
 use Rattle.audit_model.specs.Machine.{Legal}
 use Rattle.audit_model.specs.Drain.{drain, unsettled, drain_after}
-use Rattle.audit_model.specs.Serial.{done, drain_done, serial, meets_full}
-use Rattle.audit_model.specs.ScriptLines.{free}
-use Rattle.audit_model.specs.Output.{output}
-use Rattle.audit_model.specs.Telling.{told, is_of_one_editor}
+use Rattle.script_rules.specs.Serial.{done, drain_done, serial, meets_full}
+use Rattle.script_rules.specs.ScriptLines.{free}
+use Rattle.script_rules.specs.Output.{output}
+use Rattle.script_rules.specs.Telling.{told, is_of_one_editor}
 
 -- one phase without lines
 abbrev pub only_sync : List Phase

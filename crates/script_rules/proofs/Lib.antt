@@ -1,0 +1,4 @@
+mod RunExamples
+pub mod RunLaws
+pub mod RunLegal
+pub mod Telling

@@ -47,7 +47,7 @@ impl Journal {
     /// before. `O(1)` on average.
     pub fn push(&mut self, entry: StepRec) -> Result<(), (Memory, StepRec)>
         ensures { MatchResult result (λ _. self.new.entries ≡ self.old.entries ++ entry ∷ [])
-            (λ back. (self.new ≡ self.old) × (back.1 ≡ entry)) }
+            (λ back. (self.new.entries ≡ self.old.entries) × (back.1 ≡ entry)) }
     {
         match self.steps.push(entry) {
             Ok(()) => Ok(()),

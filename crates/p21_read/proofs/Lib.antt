@@ -13,3 +13,4 @@ pub mod ReadLaws
 pub mod HeaderLaws
 pub mod FileLaws
 pub mod ValueTurns
+pub mod KnownLaws

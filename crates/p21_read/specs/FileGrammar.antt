@@ -1,6 +1,6 @@
 -- What a whole file is, by cases, over tokens (ISO 10303-21: exchange structure, header section, data section).
 -- In each relation the last text is what follows what was read.
-use Rattle.std.specs.Prelude.{◌≡◌, ◌≤◌, ℕ, true, false, List, [], ◌∷◌, ◌++◌, length, codes}
+use Rattle.std.specs.Prelude.{◌≡◌, ◌≤◌, ℕ, true, List, [], ◌∷◌, ◌++◌, length, codes}
 use Rattle.ifc_base.specs.declared.value.Value.{Value}
 use Rattle.ifc_base.specs.declared.value.Instance.{Instance}
 use Rattle.reading.specs.Codes.{codes_of}

@@ -1,5 +1,5 @@
 -- Whole files, over tokens (ISO 10303-21, exchange structure and data sections).
-use Rattle.std.specs.Prelude.{ℕ, Bool, true, false, List, [], ◌∷◌, ◌++◌, None, Result, Ok, Err, ◌==◌, nat_le, length, if◌then◌else◌}
+use Rattle.std.specs.Prelude.{ℕ, Bool, true, false, List, [], ◌∷◌, ◌++◌, None, Result, Ok, Err, nat_le, length, if◌then◌else◌}
 use Rattle.ifc_base.specs.declared.value.Instance.{Instance}
 use Rattle.ifc_base.specs.Ids.{has_id}
 use Rattle.reading.specs.Reading.{Text, Read, Refused, ◌>>=◌, refuse, all_turns}

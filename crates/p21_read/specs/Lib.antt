@@ -7,6 +7,7 @@ pub mod Values
 pub mod Instances
 pub mod Readings
 pub mod Headers
+pub mod Known
 pub mod Files
 pub mod StringGrammar
 pub mod TokenGrammar

@@ -1,8 +1,9 @@
 use crate::list::Listed;
 use crate::name::{Name, Names};
 
-/// An entity's declaration (ISO 10303-11, entity declaration). `==` compares the fields.
-#[derive(Debug, PartialEq, Eq, Drop)]
+/// An entity's declaration (ISO 10303-11, entity declaration). `==` compares the fields;
+/// the order is theirs, from the first on.
+#[derive(Debug, PartialEq, Eq, PartialOrd, Ord, Drop)]
 pub struct EntityDecl {
     /// The entity's name, in upper case.
     pub name: Name,
@@ -16,8 +17,9 @@ pub struct EntityDecl {
     pub derived: Names,
 }
 
-/// A type's declaration (ISO 10303-11, type declaration), of which the name is kept. `==` compares it.
-#[derive(Debug, PartialEq, Eq, Drop)]
+/// A type's declaration (ISO 10303-11, type declaration), of which the name is kept. `==` and the
+/// order are the name's.
+#[derive(Debug, PartialEq, Eq, PartialOrd, Ord, Drop)]
 pub struct TypeDecl {
     /// The type's name, in upper case.
     pub name: Name,

@@ -3,8 +3,9 @@
 //!
 //! Contracts see each type as data: a `Value` as a tree, a `Name` as its characters, an `InstId` as a
 //! number, a list type as the list of its items. `==` of each is equality of that data, and a copy is
-//! equal to what was copied. The forms are those of ISO 10303-21 (values, instances) and ISO 10303-11
-//! (declarations).
+//! equal to what was copied. Keys are ordered by id first, all else by the fields, from the first on, and
+//! by the variants as declared; lists by the first items that differ. The forms are those of ISO 10303-21
+//! (values, instances) and ISO 10303-11 (declarations).
 //!
 //! A call that takes memory answers `Memory` where there is none, and then leaves what it was given as
 //! it was. Between two places write `*a == *b`, not `a == b` at two references: only the first gives a
@@ -18,6 +19,7 @@ mod key;
 mod list;
 mod memory;
 mod name;
+mod order;
 mod refs;
 mod value;
 

@@ -1,8 +1,9 @@
-ghost use Rattle.std.specs.Cmp.Lexicographic.{pointwise, lists_per, lists_equiv};
+ghost use Rattle.std.specs.Cmp.Lexicographic.{pointwise, lists_per, lists_equiv, slice_cmp, slice_partial_cmp, lists_po, lists_total, lists_agrees, lists_ties};
 ghost use Rattle.std.specs.Prelude.{◌≡◌, [], ◌∷◌, ◌++◌, IfOk, MatchResult};
 
 use crate::memory::Memory;
 use std::alloc::Global;
+use std::cmp::Ordering;
 use std::marker::Model;
 
 /// A value of which a copy can be made that owns memory of its own.
@@ -25,7 +26,8 @@ impl TryCopy for u8 {
 }
 
 /// A `Vec` that contracts see as the list of its items. `==` compares the items one by one, by their
-/// own `==`.
+/// own `==`; the order is that of the first items that differ, and a list comes before the longer ones
+/// that begin with it.
 #[derive(Debug, Drop)]
 pub struct Listed<T> {
     items: Vec<T>,
@@ -114,4 +116,30 @@ impl<T: PartialEq> PartialEq for Listed<T> {
 
 impl<T: Eq> Eq for Listed<T> {
     ghost laws = { lists_equiv T.Eq.laws };
+}
+
+impl<T: PartialOrd> PartialOrd for Listed<T> {
+    ghost partial_cmp = { λ a b. slice_partial_cmp T.partial_cmp a b };
+
+    ghost laws = { lists_po T.PartialOrd.laws };
+
+    fn partial_cmp(&self, other: &Listed<T>) -> Option<Ordering> {
+        self.items.partial_cmp(&other.items)
+    }
+}
+
+/// By the first items that differ; a list comes before the longer ones that begin with it. `O(n)`
+/// comparisons of items.
+impl<T: Ord> Ord for Listed<T> {
+    ghost cmp = { λ a b. slice_cmp T.cmp a b };
+
+    ghost total = { lists_total T.total };
+
+    ghost matches_partial_cmp = { λ a b. lists_agrees T.matches_partial_cmp a b };
+
+    ghost matches_eq = { λ a b. lists_ties T.cmp T.matches_eq a b };
+
+    fn cmp(&self, other: &Listed<T>) -> Ordering {
+        self.items.cmp(&other.items)
+    }
 }

@@ -18,14 +18,15 @@ pub struct Decimal {
 }
 
 /// A parameter of an instance (ISO 10303-21, parameter): a tree, whose top is the node. Contracts see
-/// the tree of the variants, with plain lists.
+/// the tree of the variants, with plain lists. `==` is equality of the trees; the order is the node's.
 #[cycle(value)]
 #[derive(Debug, Drop)]
 pub struct Value {
     pub node: ValueNode,
 }
 
-/// The kinds of parameter (ISO 10303-21, section on the encoding of parameters).
+/// The kinds of parameter (ISO 10303-21, section on the encoding of parameters), in their order: values of
+/// one kind are ordered by what they hold, lists by the first items that differ.
 #[cycle(value)]
 #[derive(Debug, Drop)]
 pub enum ValueNode {
@@ -54,8 +55,9 @@ pub enum ValueNode {
 /// Parameters in their order.
 pub type Values = Listed<Value>;
 
-/// A simple instance (ISO 10303-21, entity instance). `==` compares the fields.
-#[derive(Debug, Drop)]
+/// A simple instance (ISO 10303-21, entity instance). `==` compares the fields; the order is theirs, from
+/// the first on.
+#[derive(Debug, PartialOrd, Ord, Drop)]
 pub struct Instance {
     /// The number behind `#`.
     pub id: InstId,

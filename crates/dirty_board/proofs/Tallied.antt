@@ -17,7 +17,7 @@ use Rattle.audit_model.specs.Scratch.{applies, failing_of, tally_from, skipped_t
 use Rattle.dirty_board.specs.declared.rows.Row.{Row}
 use Rattle.dirty_board.specs.declared.rows.Kept.{Kept}
 use Rattle.dirty_board.specs.Rows.{kept_in, row_at, AreAscending, dropping, new_row, with_row, without_row}
-use Rattle.dirty_board.specs.Tallying.{empty_tally, failing_by, heading_of, is_counted, recounted, retold, tallies_from, tally_by, verdicts_of, with_elem, with_failing, with_tally, AllRising, AreOver, AreRising, Heading}
+use Rattle.dirty_board.specs.Tallying.{empty_tally, failing_by, heading_in, heading_of, is_counted, recounted, retold, tallies_from, tally_by, verdicts_of, with_elem, with_failing, with_tally, AllRising, AreOver, AreRising, Heading}
 use Rattle.dirty_board.proofs.TallyLaws.{changed_one, gone_one, held_one, kept_other, with_verdict, AreAbove, IsListed, above_after, first_row}
 
 -- Failing elements.
@@ -212,3 +212,9 @@ pub untold : (t : Tally) (e : ℕ) (was : Bool) (n : ℕ) (fs : List Failing) �
 untold t e was n fs s c f =
     let T : ℕ → List Failing → Tally = λ m xs. record { skipped = false; occurs = t.occurs; applicable = m; failing = xs } in
     rw s (ap (λ m. T m fs) c ∙ ap (T (recounted was false t.applicable)) f)
+
+-- Headings.
+
+pub headings_empty : (qs : List Specification) → map heading_in (map empty_tally qs) ≡ map heading_of qs
+headings_empty [] = refl
+headings_empty (q ∷ qs) = ap (λ hs. heading_of q ∷ hs) (headings_empty qs)

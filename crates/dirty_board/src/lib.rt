@@ -9,6 +9,7 @@ mod failing;
 mod flags;
 mod index;
 mod laws;
+mod ledger;
 mod moves;
 mod room;
 mod rows;

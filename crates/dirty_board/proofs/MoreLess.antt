@@ -9,10 +9,10 @@ use Rattle.std.proofs.Math.Seq.{drop-cons}
 use Rattle.audit_model.specs.declared.verdict.Pair.{Pair}
 use Rattle.audit_model.specs.Pairs.{same_pair}
 use Rattle.dirty_board.specs.declared.rows.Row.{Row}
-use Rattle.dirty_board.specs.Rows.{below, is_claimable, is_unsettled, new_row, row_place, with_row, without_row, AreAfter, AreAscending, IsTable}
+use Rattle.dirty_board.specs.Rows.{below, is_claimable, is_unsettled, new_row, row_place, without_row, AreAfter, AreAscending, IsTable}
 use Rattle.dirty_board.specs.Needing.{is_among}
 use Rattle.dirty_board.specs.Rooms.{pairs_of, with_pair, without_pairs, AreNew}
-use Rattle.dirty_board.proofs.Order.{after_more, below_trans, none_after, none_below, not_below, not_itself, other_above, other_below, same_is}
+use Rattle.dirty_board.proofs.Order.{after_more, below_trans, none_after, none_below, not_below, not_itself, same_is}
 use Rattle.dirty_board.proofs.Lookups.{same_itself}
 use Rattle.dirty_board.proofs.Tests.{any_more}
 

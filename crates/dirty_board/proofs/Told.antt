@@ -1,8 +1,6 @@
 -- The tallies, while one row changes, goes or comes.
-use Rattle.std.proofs.Common.{◌≡◌, ℕ, suc, Bool, true, false, cond, not, ◌==◌, if◌then◌else◌, List, [], ◌∷◌, map, filter, fold, Option, Some, None, refl, ap, sym, subst, ◌∙◌}
+use Rattle.std.proofs.Common.{◌≡◌, ℕ, suc, Bool, true, false, cond, not, ◌==◌, if◌then◌else◌, List, [], ◌∷◌, map, fold, Option, Some, None, refl, ap, sym, subst, ◌∙◌}
 use Rattle.std.specs.List.{cons_option}
-use Rattle.std.specs.Option.{option_map}
-use Rattle.std.proofs.lemmas.Bool.{true≢false}
 use Rattle.ifc_base.specs.declared.key.Key.{Key}
 use Rattle.audit_model.specs.declared.specification.Specification.{Specification}
 use Rattle.audit_model.specs.declared.verdict.Pair.{Pair}
@@ -12,7 +10,7 @@ use Rattle.audit_model.specs.Pairs.{same_pair}
 use Rattle.audit_model.specs.Scratch.{applies, tally_from, skipped_tally}
 use Rattle.dirty_board.specs.declared.rows.Row.{Row}
 use Rattle.dirty_board.specs.declared.rows.Kept.{Kept}
-use Rattle.dirty_board.specs.Rows.{below, dropped_in, dropping, holding, keeping, kept_in, kept_needs, marking, needs_key, new_row, row_at, row_place, with_row, without_key, without_row, AreAscending}
+use Rattle.dirty_board.specs.Rows.{below, dropped_in, dropping, holding, keeping, kept_in, marking, needs_key, new_row, row_at, row_place, with_row, without_key, without_row, AreAscending}
 use Rattle.dirty_board.specs.Rooms.{pairs_of, with_pair, AreNew}
 use Rattle.dirty_board.specs.Tallying.{counted_in, empty_tally, heading_in, heading_of, is_counted, retold, tallies_from, tally_by, verdicts_of, with_elem, with_tally, AllRising, AreTold, BoardView, Heading}
 use Rattle.dirty_board.proofs.MoreLess.{ascending_with_pair, inserted, inserted_with, new_next, not_listed}

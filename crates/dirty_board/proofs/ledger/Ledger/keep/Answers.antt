@@ -1,6 +1,5 @@
-use Rattle.std.proofs.Common.{◌≡◌, sym, ap, Some}
-use Rattle.dirty_board.specs.Rows.{keeping, row_at, with_row}
-use Rattle.dirty_board.specs.Tallying.{counted_in}
+use Rattle.std.proofs.Common.{sym, ap}
+use Rattle.dirty_board.specs.Rows.{keeping, with_row}
 use Rattle.dirty_board.proofs.Told.{board_of, kept_told, not_counted, rising_told, same_board, Follow}
 use Rattle.dirty_board.proofs.ledger.Ledger.keep.Goals as goal
 

@@ -1,7 +1,5 @@
 use Rattle.std.proofs.Common.{◌≡◌, sym, ap, arith, rules, Some, None}
-use Rattle.dirty_board.specs.declared.rows.Row.{Row}
 use Rattle.dirty_board.specs.Rows.{row_place}
-use Rattle.dirty_board.specs.Tallying.{is_counted}
 use Rattle.dirty_board.proofs.Order.{place_within}
 use Rattle.dirty_board.proofs.Tables.{row_here, row_none}
 use Rattle.dirty_board.proofs.table.Table.counts.Goals as goal

@@ -4,80 +4,89 @@ ghost use Rattle.dirty_board.specs.Rows.{dropped_among, keeping, least_claimable
 ghost use Rattle.audit_model.specs.Laws.{ArePairsAscending};
 ghost use Rattle.dirty_board.specs.Needing.{is_among};
 ghost use Rattle.dirty_board.specs.Rooms.{pairs_of, replaced, without_pairs, AreNew};
+ghost use Rattle.dirty_board.specs.Tallying.{having, heading_of, tallies_from};
 
 use crate::index::{Index, add_needs};
+use crate::ledger::Ledger;
 use crate::room::Room;
 use crate::rows::{BoxedKept, Kept, Row};
-use crate::table::{Table, place_of};
-use audit_model::{Pair, Verdict};
+use crate::table::place_of;
+use audit_model::{Pair, Specification, Tally, Verdict};
 use ifc_base::{Key, Keys, Memory};
 use std::alloc::Global;
 use std::collections::BTreeMap;
 use std::marker::Model;
 
-/// The board. Contracts see its rows, one for each pair, in order.
+/// The board. Contracts see its rows, one for each pair, in order, and what its tallies say of each
+/// specification whatever is found.
 #[derive(Drop)]
 pub struct Board {
-    table: Table,
+    ledger: Ledger,
     index: Index,
 }
 
 impl Model for Board {
-    ghost use Rattle.std.specs.Prelude.{List};
-    ghost use Rattle.dirty_board.specs.declared.rows.Row.{Row};
-    ghost use Rattle.audit_model.specs.Laws.{ArePairsAscending};
     ghost use Rattle.dirty_board.specs.Needing.{AreUnder};
+    ghost use Rattle.dirty_board.specs.Tallying.{BoardView};
 
-    ghost Value = { List Row };
+    ghost Value = { BoardView };
 
-    ghost view = { λ board. board.table };
+    ghost view = { λ board. board.ledger };
 
-    ghost invariant = { λ board. AreUnder board.index.entries board.table };
+    ghost invariant = { λ board. AreUnder board.index.entries board.ledger.rows };
 }
 
 /// Drops what is kept of these pairs, if it needs the key.
-fn unsettle_all(table: &mut Table, pairs: &[Pair], key: &Key)
-    ensures { table.new ≡ map (dropped_among pairs.now key.now) table.old }
+fn unsettle_all(ledger: &mut Ledger, pairs: &[Pair], key: &Key)
+    ensures { ledger.new ≡ having (map (dropped_among pairs.now key.now) ledger.old.rows) ledger.old }
 {
     for pair in pairs {
-        table.unsettle(*pair, *key);
+        ledger.unsettle(*pair, *key);
     }
 }
 
 /// Takes out the rows of these pairs.
-fn remove_all(table: &mut Table, gone: &[Pair])
-    ensures rows { table.new ≡ without_pairs gone.now table.old }
+fn remove_all(ledger: &mut Ledger, gone: &[Pair])
+    ensures rows { ledger.new ≡ having (without_pairs gone.now ledger.old.rows) ledger.old }
 {
     for pair in gone {
-        let _ = table.remove(*pair);
+        ledger.remove(*pair);
     }
 }
 
 impl Board {
-    /// The board of these pairs, which ascend: all unsettled, none out. `O(n)` in their number.
-    pub fn new(alloc: Global, pairs: &[Pair]) -> Result<Board, Memory>
+    /// The board of these pairs of these specifications; the pairs ascend. All are unsettled, none is out.
+    /// `O(n)` in the number of both.
+    pub fn new(alloc: Global, specs: &[Specification], pairs: &[Pair]) -> Result<Board, Memory>
         requires { ArePairsAscending pairs.now }
-        ensures { IfOk result (λ board. board ≡ map new_row pairs.now) }
+        ensures { IfOk result (λ board. board ≡ record { headings = map heading_of specs.now; rows = map new_row pairs.now }) }
     {
-        let table = Table::new(alloc, pairs)?;
+        let ledger = Ledger::new(alloc, specs, pairs)?;
         Ok(Board {
-            table,
+            ledger,
             index: BTreeMap::new(alloc),
         })
     }
 
     /// The rows, in order. `O(1)`.
     pub fn rows(&self) -> &[Row]
-        ensures { result.now ≡ self.now }
+        ensures { result.now ≡ self.now.rows }
     {
-        self.table.rows()
+        self.ledger.table().rows()
+    }
+
+    /// The tallies of the verdicts that are kept, one for each specification, in order. `O(1)`.
+    pub fn tallies(&self) -> &[Tally]
+        ensures { result.now ≡ tallies_from 1 self.now.headings self.now.rows }
+    {
+        self.ledger.tallies()
     }
 
     /// The verdict that is kept of the pair, if it is listed and settled. `O(log n)`.
     pub fn verdict(&self, pair: Pair) -> Option<&Verdict>
-        ensures { option_copied result ≡ verdict_kept (row_at pair self.now) }
+        ensures { option_copied result ≡ verdict_kept (row_at pair self.now.rows) }
     {
-        let rows = self.table.rows();
+        let rows = self.ledger.table().rows();
         let place = place_of(rows, pair)?;
         let row = rows.get(place)?;
         match &row.kept {
@@ -88,7 +97,7 @@ impl Board {
 
     /// Keeps what was found of the pair, which is then settled. All memory is taken first: for want of it
     /// the board stays and what was found comes back. Of a pair that isn't listed nothing is kept.
-    /// `O(k log n)` for `k` needed keys.
+    /// `O(k log n)` for `k` needed keys, and a move of failing elements of the specification.
     pub fn settle(
         &mut self,
         alloc: Global,
@@ -96,7 +105,7 @@ impl Board {
         verdict: Verdict,
         needs: Keys,
     ) -> Result<(), (Memory, Verdict, Keys)>
-        ensures rows { OnOk result (self.new ≡ with_row pair (keeping (record { verdict = verdict; needs = needs })) self.old) }
+        ensures rows { OnOk result (self.new ≡ having (with_row pair (keeping (record { verdict = verdict; needs = needs })) self.old.rows) self.old) }
         ensures stays { OnErr result (self.new ≡ self.old) }
         ensures back { IfErr result (λ back. (back.1 ≡ verdict) × (back.2 ≡ needs)) }
     {
@@ -109,26 +118,31 @@ impl Board {
                 let back = kept.into_inner();
                 Err((Memory, back.verdict, back.needs))
             }
-            Ok(()) => {
-                self.table.keep(pair, kept);
-                Ok(())
-            }
+            Ok(()) => match self.ledger.keep(pair, kept) {
+                Ok(()) => Ok(()),
+                Err(kept) => {
+                    let back = kept.into_inner();
+                    Err((Memory, back.verdict, back.needs))
+                }
+            },
         }
     }
 
     /// Unsettles the pairs that need the key. `O(p * (log n + k))` for the `p` pairs under it, of `k` keys
-    /// each.
+    /// each, and for each that is dropped a move of failing elements of its specification.
     fn mark_one(&mut self, key: Key)
-        ensures { self.new ≡ map (without_key key) self.old }
+        ensures { self.new ≡ having (map (without_key key) self.old.rows) self.old }
     {
         if let Some(pairs) = self.index.remove(&key) {
-            unsettle_all(&mut self.table, &pairs, &key);
+            unsettle_all(&mut self.ledger, &pairs, &key);
         }
     }
 
-    /// Unsettles the pairs that need one of the keys. It takes no memory.
+    /// Unsettles the pairs that need one of the keys. It takes no memory. For each key `O(p * (log n + k))`
+    /// for the `p` pairs under it, of `k` keys each, and for each pair that is dropped a move of failing
+    /// elements of its specification.
     pub fn mark(&mut self, keys: &Keys)
-        ensures { self.new ≡ marked keys.now self.old }
+        ensures { self.new ≡ having (marked keys.now self.old.rows) self.old }
     {
         for key in keys.as_slice() {
             self.mark_one(*key);
@@ -137,49 +151,49 @@ impl Board {
 
     /// The least unsettled pair. `O(n / 256)` in the number of pairs.
     pub fn least_unsettled(&self) -> Option<Pair>
-        ensures { result ≡ least_unsettled self.now }
+        ensures { result ≡ least_unsettled self.now.rows }
     {
-        self.table.least_unsettled()
+        self.ledger.table().least_unsettled()
     }
 
     /// The least unsettled pair that isn't out. `O(n / 256)` in the number of pairs.
     pub fn least_claimable(&self) -> Option<Pair>
-        ensures { result ≡ least_claimable self.now }
+        ensures { result ≡ least_claimable self.now.rows }
     {
-        self.table.least_claimable()
+        self.ledger.table().least_claimable()
     }
 
     /// Marks that a claim of the pair is out. A pair that isn't listed has no mark.
     pub fn take_out(&mut self, pair: Pair)
-        ensures { self.new ≡ with_row pair (marking true) self.old }
+        ensures { self.new ≡ having (with_row pair (marking true) self.old.rows) self.old }
     {
-        self.table.mark_out(pair, true);
+        self.ledger.mark_out(pair, true);
     }
 
     /// Marks that no claim of the pair is out.
     pub fn put_back(&mut self, pair: Pair)
-        ensures { self.new ≡ with_row pair (marking false) self.old }
+        ensures { self.new ≡ having (with_row pair (marking false) self.old.rows) self.old }
     {
-        self.table.mark_out(pair, false);
+        self.ledger.mark_out(pair, false);
     }
 
     /// The room for these pairs to go and those to come. The board stays. Where no pair comes it takes
     /// the memory of the pairs that go alone, and else that of a row for each pair.
     pub fn make_room(&self, alloc: Global, gone: &[Pair], come: &[Pair]) -> Result<Room, Memory>
-        ensures { IfOk result (λ room. room ≡ record { gone = gone.now; come = come.now; size = length self.now }) }
+        ensures { IfOk result (λ room. room ≡ record { gone = gone.now; come = come.now; size = length self.now.rows }) }
     {
-        Room::new(alloc, self.table.len(), gone, come)
+        Room::new(alloc, self.ledger.table().len(), gone, come)
     }
 
     /// Takes out the pairs that go and adds those that come, unsettled and not out, each in its place;
     /// the others keep what is kept of them and their marks. It takes no memory. It asks that there are
     /// no more rows than the room was made for, and that the pairs that come are distinct and not
-    /// listed. Where none goes or comes it costs nothing; else for each pair `O(log n)` and a move of
-    /// the rows behind it.
+    /// listed. Where none goes or comes it costs nothing; else for each pair `O(log n)`, a move of the
+    /// rows behind it and, where a verdict goes with it, of failing elements of its specification.
     pub fn replace_pairs(&mut self, room: Room)
-        requires size { length self.old ≤ room.size }
-        requires fresh { AreNew (pairs_of self.old) room.come }
-        ensures { self.new ≡ replaced room.gone room.come self.old }
+        requires size { length self.old.rows ≤ room.size }
+        requires fresh { AreNew (pairs_of self.old.rows) room.come }
+        ensures { self.new ≡ having (replaced room.gone room.come self.old.rows) self.old }
     {
         let Room {
             gone,
@@ -187,9 +201,9 @@ impl Board {
             size: _,
             space,
         } = room;
-        remove_all(&mut self.table, &gone);
+        remove_all(&mut self.ledger, &gone);
         if !come.is_empty() {
-            self.table.add_all(&come, space);
+            self.ledger.add_all(&come, space);
         }
     }
 }

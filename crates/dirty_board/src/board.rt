@@ -105,7 +105,8 @@ impl Board {
         verdict: Verdict,
         needs: Keys,
     ) -> Result<(), (Memory, Verdict, Keys)>
-        ensures rows { OnOk result (self.new ≡ having (with_row pair (keeping (record { verdict = verdict; needs = needs })) self.old.rows) self.old) }
+        ensures rows { OnOk result (self.new ≡
+            having (with_row pair (keeping (record { verdict = verdict; needs = needs })) self.old.rows) self.old) }
         ensures stays { OnErr result (self.new ≡ self.old) }
         ensures back { IfErr result (λ back. (back.1 ≡ verdict) × (back.2 ≡ needs)) }
     {

@@ -231,10 +231,10 @@ one_up : (n : ℕ) → n + 1 ≡ suc n
 one_up n = omega arith
 
 -- the core's fields after an accepted commit
-pub kept_commit : {g : Ground} {h : List StepRec} {v : SnapshotView} {rows : List Row} {passed : ℕ} {held : List Given} {log : FinMap nat_cmp ℕ} {number room : ℕ} (actor base : ℕ) (edits : List Edit) (next : SnapshotView) (keys : List Key) (news : List Row) (log' : FinMap nat_cmp ℕ) →
-    IsKept g h v rows passed held log number room → IsPlan g.schema g.specs g.limits (last_change g h) base (revision h) (current g h) edits next keys news → base ≤ revision h → length h + length held + 1 ≤ room → length h + length held + 1 ≤ g.limits.steps →
+pub kept_commit : {g : Ground} {h : List StepRec} {v : SnapshotView} {rows : List Row} {passed : ℕ} {held : List Given} {log : FinMap nat_cmp ℕ} {number room places : ℕ} (actor base : ℕ) (edits : List Edit) (next : SnapshotView) (keys : List Key) (news : List Row) (log' : FinMap nat_cmp ℕ) →
+    IsKept g h v rows passed held log number room places → IsPlan g.schema g.specs g.limits (last_change g h) base (revision h) (current g h) edits next keys news → base ≤ revision h → length h + length held + 1 ≤ room → length h + length held + 1 ≤ g.limits.steps →
     ((k : Key) → last_in log' k ≡ (if list_any (λ j. key_eq j k) keys then revision h + 1 else last_change g h k)) →
-    IsKept g (record { actor = actor; call = Commit base edits; reply = Accepted next.revision } ∷ h) next (carried (last_in log') v.revision news rows) 0 held log' number room
+    IsKept g (record { actor = actor; call = Commit base edits; reply = Accepted next.revision } ∷ h) next (carried (last_in log') v.revision news rows) 0 held log' number room places
 kept_commit {g = g} {h = h} {v = v} {rows = rows} {held = held} {log = log} actor base edits next keys news log' k p b fits few noted =
     let m : List Instance = current g h in
     let rev : next.revision ≡ revision h + 1 = p.next_is.revision in
@@ -259,11 +259,12 @@ kept_commit {g = g} {h = h} {v = v} {rows = rows} {held = held} {log = log} acto
       number_is = k.number_is;
       numbers = omega (arith, k.numbers);
       fits = omega (arith, fits);
+      memory = k.memory;
       few = omega (arith, few);
     }
 
 -- the rows that a plan makes ascend
-pub plan_ascends : {g : Ground} {h : List StepRec} {v : SnapshotView} {rows : List Row} {passed : ℕ} {held : List Given} {log : FinMap nat_cmp ℕ} {number room base : ℕ} {edits : List Edit} {next : SnapshotView} {keys : List Key} {news : List Row} →
-    IsKept g h v rows passed held log number room → IsPlan g.schema g.specs g.limits (last_change g h) base (revision h) (current g h) edits next keys news → AreAscending news
+pub plan_ascends : {g : Ground} {h : List StepRec} {v : SnapshotView} {rows : List Row} {passed : ℕ} {held : List Given} {log : FinMap nat_cmp ℕ} {number room places base : ℕ} {edits : List Edit} {next : SnapshotView} {keys : List Key} {news : List Row} →
+    IsKept g h v rows passed held log number room places → IsPlan g.schema g.specs g.limits (last_change g h) base (revision h) (current g h) edits next keys news → AreAscending news
 plan_ascends {g = g} {h = h} {base = base} {edits = edits} k p =
     rw p.rows_are (empty_ascends g.specs (apply g.schema (current g h) edits) k.numbered (model_applied g.schema g.limits (revision h) (last_change g h) base (current g h) edits p.judged (model_now g (commits h) k.ascending)))

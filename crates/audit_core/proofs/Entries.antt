@@ -33,7 +33,7 @@ use Rattle.audit_core.proofs.PairOrder.{board_ascends}
 use Rattle.audit_core.proofs.Uses.{stands_when}
 
 -- the rows ascend
-pub ascending_rows : {g : Ground} {h : List StepRec} {v : SnapshotView} {rows : List Row} {passed : ℕ} {held : List Given} {log : FinMap nat_cmp ℕ} {number room : ℕ} → IsKept g h v rows passed held log number room → AreAscending rows
+pub ascending_rows : {g : Ground} {h : List StepRec} {v : SnapshotView} {rows : List Row} {passed : ℕ} {held : List Given} {log : FinMap nat_cmp ℕ} {number room places : ℕ} → IsKept g h v rows passed held log number room places → AreAscending rows
 ascending_rows {g = g} {h = h} k = rw k.board (board_ascends g (commits h) (used h) k.numbered (model_now g (commits h) k.ascending))
 
 some_is : {X : Type 0} {o : Option X} {x : X} → o ≡ Some x → IsSome o
@@ -45,7 +45,7 @@ record IsLeft (n : ℕ) (p : Pair) (rows : List Row) (passed : ℕ) (held : List
   within : back_to passed (row_place p rows) ≤ length rows
   none_before : list_any (is_claimable (without_claim n held)) (take (back_to passed (row_place p rows)) rows) ≡ false
 
-left_by : {g : Ground} {h : List StepRec} {v : SnapshotView} {rows : List Row} {passed : ℕ} {held : List Given} {log : FinMap nat_cmp ℕ} {number room : ℕ} → IsKept g h v rows passed held log number room → (n : ℕ) (c : Given) (p : Pair) → claim_numbered n (out h) ≡ Some c → c.pair ≡ p → IsLeft n p rows passed held
+left_by : {g : Ground} {h : List StepRec} {v : SnapshotView} {rows : List Row} {passed : ℕ} {held : List Given} {log : FinMap nat_cmp ℕ} {number room places : ℕ} → IsKept g h v rows passed held log number room places → (n : ℕ) (c : Given) (p : Pair) → claim_numbered n (out h) ≡ Some c → c.pair ≡ p → IsLeft n p rows passed held
 left_by {g = g} {h = h} {rows = rows} {passed = passed} {held = held} k n c p e same =
     let e' : claim_numbered n held ≡ Some c = rw k.claims e in
     let back : (back_to passed (row_place p rows) ≤ passed) = (back_before passed (row_place p rows)).1 in
@@ -55,7 +55,7 @@ left_by {g = g} {h = h} {rows = rows} {passed = passed} {held = held} k n c p e 
       none_before = none_front n p held rows passed (back_to passed (row_place p rows)) (rw (← same) (of_pair n held c (rw k.claims (rising_out g h k.legal)) e')) back (back_before passed (row_place p rows)).0 k.none_before;
     }
 
-pub kept_back : {g : Ground} {h : List StepRec} {v : SnapshotView} {rows : List Row} {passed : ℕ} {held : List Given} {log : FinMap nat_cmp ℕ} {number room : ℕ} (actor n : ℕ) (p : Pair) (c : Given) → IsKept g h v rows passed held log number room → Holds h actor n c → c.pair ≡ p → IsKept g (record { actor = actor; call = GiveBack n; reply = Back } ∷ h) v rows (back_to passed (row_place p rows)) (without_claim n held) log number room
+pub kept_back : {g : Ground} {h : List StepRec} {v : SnapshotView} {rows : List Row} {passed : ℕ} {held : List Given} {log : FinMap nat_cmp ℕ} {number room places : ℕ} (actor n : ℕ) (p : Pair) (c : Given) → IsKept g h v rows passed held log number room places → Holds h actor n c → c.pair ≡ p → IsKept g (record { actor = actor; call = GiveBack n; reply = Back } ∷ h) v rows (back_to passed (row_place p rows)) (without_claim n held) log number room places
 kept_back actor n p c k o same =
     let left = left_by k n c p o.is_held same in
     record {
@@ -72,10 +72,11 @@ kept_back actor n p c k o same =
       number_is = k.number_is;
       numbers = omega (arith, k.numbers);
       fits = omega (arith, k.fits, left.fewer);
+      memory = k.memory;
       few = omega (arith, k.few, left.fewer);
     }
 
-pub kept_stale : {g : Ground} {h : List StepRec} {v : SnapshotView} {rows : List Row} {passed : ℕ} {held : List Given} {log : FinMap nat_cmp ℕ} {number room : ℕ} (actor n : ℕ) (p : Pair) (key : Key) (r : ℕ) (c : Given) → IsKept g h v rows passed held log number room → claim_numbered n (out h) ≡ Some c → c.pair ≡ p → MayFollow g h (record { actor = actor; call = Deliver n; reply = Stale key r }) → IsKept g (record { actor = actor; call = Deliver n; reply = Stale key r } ∷ h) v rows (back_to passed (row_place p rows)) (without_claim n held) log number room
+pub kept_stale : {g : Ground} {h : List StepRec} {v : SnapshotView} {rows : List Row} {passed : ℕ} {held : List Given} {log : FinMap nat_cmp ℕ} {number room places : ℕ} (actor n : ℕ) (p : Pair) (key : Key) (r : ℕ) (c : Given) → IsKept g h v rows passed held log number room places → claim_numbered n (out h) ≡ Some c → c.pair ≡ p → MayFollow g h (record { actor = actor; call = Deliver n; reply = Stale key r }) → IsKept g (record { actor = actor; call = Deliver n; reply = Stale key r } ∷ h) v rows (back_to passed (row_place p rows)) (without_claim n held) log number room places
 kept_stale actor n p key r c k e same m =
     let left = left_by k n c p e same in
     record {
@@ -92,10 +93,11 @@ kept_stale actor n p key r c k e same m =
       number_is = k.number_is;
       numbers = omega (arith, k.numbers);
       fits = omega (arith, k.fits, left.fewer);
+      memory = k.memory;
       few = omega (arith, k.few, left.fewer);
     }
 
-pub kept_used : {g : Ground} {h : List StepRec} {v : SnapshotView} {rows : List Row} {passed : ℕ} {held : List Given} {log : FinMap nat_cmp ℕ} {number room : ℕ} (actor n : ℕ) (p : Pair) (x : Kept) (c : Given) → IsKept g h v rows passed held log number room → Holds h actor n c → c.pair ≡ p → least_changed g h c ≡ None → x ≡ found g.schema g.specs (current g h) p → IsKept g (record { actor = actor; call = Deliver n; reply = Used } ∷ h) v (settled_rows p x rows) (back_to passed (row_place p rows)) (without_claim n held) log number room
+pub kept_used : {g : Ground} {h : List StepRec} {v : SnapshotView} {rows : List Row} {passed : ℕ} {held : List Given} {log : FinMap nat_cmp ℕ} {number room places : ℕ} (actor n : ℕ) (p : Pair) (x : Kept) (c : Given) → IsKept g h v rows passed held log number room places → Holds h actor n c → c.pair ≡ p → least_changed g h c ≡ None → x ≡ found g.schema g.specs (current g h) p → IsKept g (record { actor = actor; call = Deliver n; reply = Used } ∷ h) v (settled_rows p x rows) (back_to passed (row_place p rows)) (without_claim n held) log number room places
 kept_used {g = g} {h = h} {rows = rows} {passed = passed} actor n p x c k o same none now =
     let left = left_by k n c p o.is_held same in
     record {
@@ -112,19 +114,20 @@ kept_used {g = g} {h = h} {rows = rows} {passed = passed} actor n p x c k o same
       number_is = k.number_is;
       numbers = omega (arith, k.numbers);
       fits = omega (arith, k.fits, left.fewer);
+      memory = k.memory;
       few = omega (arith, k.few, left.fewer);
     }
 
 pub room_left : (items : List StepRec) (held : List Given) (room n : ℕ) → 0 < n → n ≤ room - (length items + length held) → length (reverse items) + length held + n ≤ room
 room_left items held room n p h = omega (arith, length-reverse items, p, h)
 
-pub few_left : {g : Ground} {h : List StepRec} {v : SnapshotView} {rows : List Row} {passed : ℕ} {held : List Given} {log : FinMap nat_cmp ℕ} {number room : ℕ} → IsKept g h v rows passed held log number room → (n : ℕ) → is_full g h n ≡ false → length h + length held + n ≤ g.limits.steps
+pub few_left : {g : Ground} {h : List StepRec} {v : SnapshotView} {rows : List Row} {passed : ℕ} {held : List Given} {log : FinMap nat_cmp ℕ} {number room places : ℕ} → IsKept g h v rows passed held log number room places → (n : ℕ) → is_full g h n ≡ false → length h + length held + n ≤ g.limits.steps
 few_left {g = g} {h = h} {held = held} k n f =
     let same : length held ≡ length (out h) = ap (λ (cs : List Given). length cs) k.claims in
     let le : length h + length (out h) + n ≤ g.limits.steps = ltb-false _ _ f in
     omega arith
 
-pub kept_refused : {g : Ground} {h : List StepRec} {v : SnapshotView} {rows : List Row} {passed : ℕ} {held : List Given} {log : FinMap nat_cmp ℕ} {number room : ℕ} (actor base : ℕ) (edits : List Edit) (why : CommitRefusal) → IsKept g h v rows passed held log number room → base ≤ revision h → judge g.schema g.limits (revision h) (last_change g h) base (current g h) edits ≡ Some why → length h + length held + 1 ≤ room → length h + length held + 1 ≤ g.limits.steps → IsKept g (record { actor = actor; call = Commit base edits; reply = Refused why } ∷ h) v rows passed held log number room
+pub kept_refused : {g : Ground} {h : List StepRec} {v : SnapshotView} {rows : List Row} {passed : ℕ} {held : List Given} {log : FinMap nat_cmp ℕ} {number room places : ℕ} (actor base : ℕ) (edits : List Edit) (why : CommitRefusal) → IsKept g h v rows passed held log number room places → base ≤ revision h → judge g.schema g.limits (revision h) (last_change g h) base (current g h) edits ≡ Some why → length h + length held + 1 ≤ room → length h + length held + 1 ≤ g.limits.steps → IsKept g (record { actor = actor; call = Commit base edits; reply = Refused why } ∷ h) v rows passed held log number room places
 kept_refused actor base edits why k b j fits few =
     record {
       legal = ((b, rw j), k.legal);
@@ -140,13 +143,14 @@ kept_refused actor base edits why k b j fits few =
       number_is = k.number_is;
       numbers = omega (arith, k.numbers);
       fits = omega (arith, fits);
+      memory = k.memory;
       few = omega (arith, few);
     }
 
 length_push : (cs : List Given) (c : Given) → length (cs ++ c ∷ []) ≡ length cs + 1
 length_push cs c = omega (arith, length-append cs (c ∷ []))
 
-pub kept_claimed : {g : Ground} {h : List StepRec} {v : SnapshotView} {rows : List Row} {passed : ℕ} {held : List Given} {log : FinMap nat_cmp ℕ} {number room : ℕ} (actor : ℕ) (p : Pair) → IsKept g h v rows passed held log number room → least_claimable g h ≡ Some p → length h + length held + 2 ≤ room → length h + length held + 2 ≤ g.limits.steps → IsKept g (record { actor = actor; call = Claim; reply = Claimed (number + 1) p v.revision } ∷ h) v rows passed (held ++ record { number = number + 1; actor = actor; pair = p; revision = v.revision } ∷ []) log (number + 1) room
+pub kept_claimed : {g : Ground} {h : List StepRec} {v : SnapshotView} {rows : List Row} {passed : ℕ} {held : List Given} {log : FinMap nat_cmp ℕ} {number room places : ℕ} (actor : ℕ) (p : Pair) → IsKept g h v rows passed held log number room places → least_claimable g h ≡ Some p → length h + length held + 2 ≤ room → length h + length held + 2 ≤ g.limits.steps → IsKept g (record { actor = actor; call = Claim; reply = Claimed (number + 1) p v.revision } ∷ h) v rows passed (held ++ record { number = number + 1; actor = actor; pair = p; revision = v.revision } ∷ []) log (number + 1) room places
 kept_claimed {g = g} {h = h} {v = v} {rows = rows} {passed = passed} {held = held} {number = number} actor p k least fits few =
     let c : Given = record { number = number + 1; actor = actor; pair = p; revision = v.revision } in
     record {
@@ -163,15 +167,16 @@ kept_claimed {g = g} {h = h} {v = v} {rows = rows} {passed = passed} {held = hel
       number_is = rw (sum_by-cons (λ (x : StepRec). cond (is_claimed x.reply) 1 0) (record { actor = actor; call = Claim; reply = Claimed (number + 1) p v.revision }) h) (omega (arith, k.number_is));
       numbers = omega (arith, k.numbers);
       fits = omega (arith, fits, length_push held (record { number = number + 1; actor = actor; pair = p; revision = v.revision }));
+      memory = k.memory;
       few = omega (arith, few, length_push held (record { number = number + 1; actor = actor; pair = p; revision = v.revision }));
     }
 
 -- a claim that was just given is found by its number
-pub held_new : {g : Ground} {h : List StepRec} {v : SnapshotView} {rows : List Row} {passed : ℕ} {held : List Given} {log : FinMap nat_cmp ℕ} {number room : ℕ} → IsKept g h v rows passed held log number room → (actor r : ℕ) (p : Pair) → claim_numbered (number + 1) (out (record { actor = actor; call = Claim; reply = Claimed (number + 1) p r } ∷ h)) ≡ Some (record { number = number + 1; actor = actor; pair = p; revision = r })
+pub held_new : {g : Ground} {h : List StepRec} {v : SnapshotView} {rows : List Row} {passed : ℕ} {held : List Given} {log : FinMap nat_cmp ℕ} {number room places : ℕ} → IsKept g h v rows passed held log number room places → (actor r : ℕ) (p : Pair) → claim_numbered (number + 1) (out (record { actor = actor; call = Claim; reply = Claimed (number + 1) p r } ∷ h)) ≡ Some (record { number = number + 1; actor = actor; pair = p; revision = r })
 held_new {g = g} {h = h} {number = number} k actor r p = find_push (given h) (out h) (record { number = number + 1; actor = actor; pair = p; revision = r }) (out_numbers g h k.legal) (ap (λ (n : ℕ). n + 1) k.number_is)
 
 -- a search of the rows is one of the pairs
-pub claimable_is : {g : Ground} {h : List StepRec} {v : SnapshotView} {rows : List Row} {passed : ℕ} {held : List Given} {log : FinMap nat_cmp ℕ} {number room : ℕ} → IsKept g h v rows passed held log number room → option_map (λ (r : Row). r.pair) (find (is_claimable held) rows) ≡ least_claimable g h
+pub claimable_is : {g : Ground} {h : List StepRec} {v : SnapshotView} {rows : List Row} {passed : ℕ} {held : List Given} {log : FinMap nat_cmp ℕ} {number room places : ℕ} → IsKept g h v rows passed held log number room places → option_map (λ (r : Row). r.pair) (find (is_claimable held) rows) ≡ least_claimable g h
 claimable_is {g = g} {h = h} k = rw (k.board, k.claims) (claimable_on_board g (commits h) (used h) (out h))
 
 find-agree : {X : Type 0} (p q : X → Bool) → ((x : X) → p x ≡ q x) → (xs : List X) → find p xs ≡ find q xs
@@ -179,5 +184,5 @@ find-agree p q e [] = refl
 find-agree p q e (x ∷ xs) = rw (e x, find-agree p q e xs)
 
 -- a search of the log is one of the changes
-pub changed_is : {g : Ground} {h : List StepRec} {v : SnapshotView} {rows : List Row} {passed : ℕ} {held : List Given} {log : FinMap nat_cmp ℕ} {number room : ℕ} → IsKept g h v rows passed held log number room → (since : ℕ) (needs : List Key) → find (λ k. nat_lt since (last_in log k)) needs ≡ find (changed_since g h since) needs
+pub changed_is : {g : Ground} {h : List StepRec} {v : SnapshotView} {rows : List Row} {passed : ℕ} {held : List Given} {log : FinMap nat_cmp ℕ} {number room places : ℕ} → IsKept g h v rows passed held log number room places → (since : ℕ) (needs : List Key) → find (λ k. nat_lt since (last_in log k)) needs ≡ find (changed_since g h since) needs
 changed_is k since needs = find-agree _ _ (λ key. ap (λ n. nat_lt since n) (k.changes key)) needs

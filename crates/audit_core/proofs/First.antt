@@ -55,8 +55,8 @@ empty_board : (g : Ground) → map empty_row (pairs g.specs g.first) ≡ board_b
 unfolding board_by
 empty_board g = refl
 
-pub kept_first : (g : Ground) (room : ℕ) (v : SnapshotView) (log : FinMap nat_cmp ℕ) → NumberedFrom 1 g.specs → IsModel g.first → length g.first ≤ g.limits.instances → IsSnapshotOf g.schema g.first 0 v → ((k : Key) → last_in log k ≡ 0) → IsKept g [] v (map empty_row (pairs g.specs g.first)) 0 [] log 0 room
-kept_first g room v log n m l now none =
+pub kept_first : (g : Ground) (places : ℕ) (v : SnapshotView) (log : FinMap nat_cmp ℕ) → NumberedFrom 1 g.specs → IsModel g.first → length g.first ≤ g.limits.instances → IsSnapshotOf g.schema g.first 0 v → ((k : Key) → last_in log k ≡ 0) → IsKept g [] v (map empty_row (pairs g.specs g.first)) 0 [] log 0 0 places
+kept_first g places v log n m l now none =
     record {
       legal = tt;
       numbered = n;
@@ -71,5 +71,6 @@ kept_first g room v log n m l now none =
       number_is = refl;
       numbers = omega arith;
       fits = omega arith;
+      memory = omega arith;
       few = omega arith;
     }

@@ -16,8 +16,8 @@ use Rattle.audit_core.specs.Rows.{board_of, is_claimable}
 
 -- The snapshot is the current model and revision; there is a row for each of its pairs, and none of the first `passed` can be
 -- claimed; the claims are those that are out; the log has the last change of each key; `number` is that of the last claim; the
--- journal, which has room for `room` entries, has room for the end of each claim that is out.
-pub record IsKept (g : Ground) (h : List StepRec) (view : SnapshotView) (rows : List Row) (passed : ℕ) (held : List Given) (log : FinMap nat_cmp ℕ) (number room : ℕ) : Type 0 where
+-- journal, with memory for `places` entries, keeps `room` of them, enough for the end of each claim that is out.
+pub record IsKept (g : Ground) (h : List StepRec) (view : SnapshotView) (rows : List Row) (passed : ℕ) (held : List Given) (log : FinMap nat_cmp ℕ) (number room places : ℕ) : Type 0 where
   pub legal : Legal g h
   pub numbered : NumberedFrom 1 g.specs
   pub ascending : AllModels g (commits h)
@@ -31,4 +31,5 @@ pub record IsKept (g : Ground) (h : List StepRec) (view : SnapshotView) (rows : 
   pub number_is : number ≡ given h
   pub numbers : number ≤ length h
   pub fits : length h + length held ≤ room
+  pub memory : room ≤ places
   pub few : length h + length held ≤ g.limits.steps

@@ -21,7 +21,7 @@ use crate::claims::take_back;
 use crate::fits::{ModelFault, is_ifc4, misfit_in};
 use crate::journal::CoreJournal;
 use crate::tallies::tally_all;
-use audit_model::{Call, Given, Limits, Pair, Reply, Specification, StepRec, Tally};
+use audit_model::{Call, Given, Journal, Limits, Pair, Reply, Specification, StepRec, Tally};
 use ifc_base::{Key, Memory, Refusal};
 use inverse_index::ChangeLog;
 use model_view::{Claim, Claimed, Delivered, Finding, Halt, Published, Snapshot};
@@ -45,11 +45,12 @@ pub struct Core<'a> {
     claims: Vec<Given>,
     log: ChangeLog,
     number: u64,
-    journal: Vec<StepRec>,
+    room: usize,
+    journal: Journal,
 }
 
 impl<'a> Model for Core<'a> {
-    ghost use Rattle.std.specs.Prelude.{◌+◌, ◌-◌, reverse, length, vec_capacity};
+    ghost use Rattle.std.specs.Prelude.{◌+◌, ◌-◌, reverse, length};
     ghost use Rattle.std.specs.Coded.{codes};
     ghost use Rattle.ifc_base.specs.contracts.value.Value as value;
     ghost use Rattle.restrictions.specs.contracts.condition.Condition as condition;
@@ -62,13 +63,13 @@ impl<'a> Model for Core<'a> {
 
     ghost view = { λ core. record {
       ground = record { schema = core.schema.now; specs = core.specs.now; first = core.first.model; limits = core.limits };
-      history = reverse core.journal.items;
-      spare = vec_capacity core.journal - (length core.journal.items + length core.claims.items);
+      history = reverse core.journal.entries;
+      spare = core.room - (length core.journal.entries + length core.claims.items);
     } };
 
     ghost invariant = { λ core. IsKept (record { schema = core.schema.now; specs = core.specs.now; first = core.first.model; limits = core.limits })
-        (reverse core.journal.items) core.current core.board.items core.passed core.claims.items core.log core.number
-        (vec_capacity core.journal) };
+        (reverse core.journal.entries) core.current core.board.items core.passed core.claims.items core.log core.number
+        core.room core.journal.room };
 }
 
 impl<'a> Core<'a> {
@@ -114,7 +115,8 @@ impl<'a> Core<'a> {
             claims: Vec::new(alloc),
             log: ChangeLog::new(),
             number: 0,
-            journal: Vec::new(alloc),
+            room: 0,
+            journal: Journal::new(alloc),
         })
     }
 
@@ -127,11 +129,11 @@ impl<'a> Core<'a> {
     }
 
     /// The journal, the oldest entry first. It is legal.
-    pub fn journal(&self) -> &[StepRec]
-        ensures entries { result.now ≡ reverse self.now.history }
+    pub fn journal(&self) -> &Journal
+        ensures entries { result.now.entries ≡ reverse self.now.history }
         ensures legal { Legal self.now.ground self.now.history }
     {
-        self.journal.as_slice()
+        &self.journal
     }
 
     /// The journal of the whole run, which is legal. It takes no memory.
@@ -150,9 +152,10 @@ impl<'a> Core<'a> {
             claims: _claims,
             log: _log,
             number: _,
+            room: _,
             journal,
         } = self;
-        CoreJournal::from_entries(journal)
+        CoreJournal::from_journal(journal)
     }
 
     /// Makes room for n more entries, beside one for the end of each claim that is out.
@@ -164,14 +167,22 @@ impl<'a> Core<'a> {
         ensures halted { IfErr result (λ why. IsHalted self.old self.new n why) }
         ensures full { IfErr result (λ why. is_full self.old.ground self.old.history n ≡ tells_full why) }
     {
-        let used = self.journal.len() as u64 + self.claims.len() as u64;
+        let used = self.journal.as_slice().len() as u64 + self.claims.len() as u64;
         if self.limits.steps - used < n {
             return Err(Halt::Full);
         }
-        match self.journal.reserve(self.claims.len() + n as usize) {
-            Ok(()) => Ok(()),
-            Err(_) => Err(Halt::Memory),
+        let wanted = (used + n) as usize;
+        if self.room < wanted {
+            if self
+                .journal
+                .reserve(self.claims.len() + n as usize)
+                .is_err()
+            {
+                return Err(Halt::Memory);
+            }
+            self.room = wanted;
         }
+        Ok(())
     }
 
     /// Begins a draft: the snapshot of the current revision. `O(1)`, amortized.

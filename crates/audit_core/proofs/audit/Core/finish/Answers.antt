@@ -12,5 +12,5 @@ carry-requires c =
 pub invariant_of-self : goal.invariant_of-self
 invariant_of-self c =
     let r = rw (← c.self.view_is, ← c.prepared.view_is) at c.requires in
-    rw (c.push_reserved.ensures.items, reverse-append, c.push_reserved.ensures.capacity, c.carry.ensures, c.replace-olds.ensures.value, c.replace-olds.ensures.after, c.revision-since.ensures, c.revision-revision.ensures)
-    (kept_commit c.prepared.inside.actor c.prepared.inside.base c.prepared.inside.edits c.prepared.inside.next c.prepared.inside.keys c.prepared.inside.rows.items c.prepared.inside.log c.self.invariant r.plan r.base_past (room_left c.self.inside.journal.items c.self.inside.claims.items _ 1 (omega arith) r.room) (few_left c.self.invariant 1 r.not_full) r.log_is)
+    rw (c.push_reserved.ensures.entries, reverse-append, c.push_reserved.ensures.room, c.carry.ensures, c.replace-olds.ensures.value, c.replace-olds.ensures.after, c.revision-since.ensures, c.revision-revision.ensures)
+    (kept_commit c.prepared.inside.actor c.prepared.inside.base c.prepared.inside.edits c.prepared.inside.next c.prepared.inside.keys c.prepared.inside.rows.items c.prepared.inside.log c.self.invariant r.plan r.base_past (room_left c.self.inside.journal.entries c.self.inside.claims.items _ 1 (omega arith) r.room) (few_left c.self.invariant 1 r.not_full) r.log_is)

@@ -9,5 +9,5 @@ place_of-place-requires c = rw c.deref.ensures.value (ascending_rows c.self.inva
 
 pub invariant_of-self : goal.invariant_of-self
 invariant_of-self c =
-    rw (c.push_reserved.ensures.items, reverse-append, c.push_reserved.ensures.capacity, c.take_back.ensures.rest, c.number-number.ensures, c.back_to-self-inside.ensures, c.place_of-place.ensures, c.pair.ensures, c.deref.ensures.value)
+    rw (c.push_reserved.ensures.entries, reverse-append, c.push_reserved.ensures.room, c.take_back.ensures.rest, c.number-number.ensures, c.back_to-self-inside.ensures, c.place_of-place.ensures, c.pair.ensures, c.deref.ensures.value)
     (kept_back c.args.actor c.args.claim.number c.args.claim.pair (given_of c.args.actor c.args.claim) c.self.invariant (record { is_held = rw (← c.self.view_is) at c.requires; by = refl }) refl)

@@ -6,7 +6,7 @@ use Rattle.audit_core.proofs.audit.Core.new.Goals as goal
 pub invariant_of-result : goal.invariant_of-result
 invariant_of-result c =
     let few : length c.in_ok-first.first.model ≤ c.args.limits.instances = rw (c.in_ok-first.ensures.model, length-model_of_file c.args.file.instances) c.requires.few in
-    rw (c.new-3.ensures.items, c.new.ensures.items, c.in_ok-board.ensures, c.in_ok-current.ensures)
+    rw (c.new-3.ensures, c.new.ensures.items, c.in_ok-board.ensures, c.in_ok-current.ensures)
     (kept_first (record { schema = c.args.schema.now; specs = c.args.specs.now; first = c.in_ok-first.first.model; limits = c.args.limits }) _ c.in_ok-first.first _ c.requires.specifications.numbered (rw c.in_ok-first.ensures.model (IsModel-model_of_file c.args.file.instances c.requires.distinct)) few (record { model = refl; revision = c.in_ok-first.ensures.revision; index = c.in_ok-first.ensures.index }) c.new-2.ensures)
 
 pub returns-clause-ascending : goal.returns-clause-ascending

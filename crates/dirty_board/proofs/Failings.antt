@@ -1,5 +1,5 @@
 -- The place of a failing element.
-use Rattle.std.proofs.Common.{◌≡◌, ℕ, suc, zero, ◌+◌, ◌<◌, ◌≤◌, Bool, true, false, cond, ◌==◌, nat_lt, List, [], ◌∷◌, ◌++◌, length, take, drop, filter, Option, Some, None, refl, arith, ap, sym, subst, ◌∙◌, inl, inr}
+use Rattle.std.proofs.Common.{◌≡◌, ℕ, suc, ◌+◌, ◌<◌, ◌≤◌, Bool, true, false, cond, ◌==◌, nat_lt, List, [], ◌∷◌, take, drop, filter, refl, arith, ap, sym, ◌∙◌, inl, inr}
 use Rattle.std.specs.List.{prefix_len, slice_get, list_any, remove}
 use Rattle.std.proofs.lemmas.Bool.{cases_lt, lt-ltb, le-ltb, ltb-true, eqb-true, eq-eqb, true≢false}
 use Rattle.audit_model.specs.declared.report.Failing.{Failing}

@@ -10,3 +10,4 @@ pub mod Blocks
 pub mod MoreLess
 pub mod Failings
 pub mod Tallied
+pub mod Told

@@ -9,10 +9,10 @@ use Rattle.std.proofs.Math.Seq.{drop-cons}
 use Rattle.audit_model.specs.declared.verdict.Pair.{Pair}
 use Rattle.audit_model.specs.Pairs.{same_pair}
 use Rattle.dirty_board.specs.declared.rows.Row.{Row}
-use Rattle.dirty_board.specs.Rows.{below, is_claimable, is_unsettled, new_row, row_place, with_row, without_row, AreAfter, AreAscending, IsTable}
+use Rattle.dirty_board.specs.Rows.{below, is_claimable, is_unsettled, new_row, row_place, without_row, AreAfter, AreAscending, IsTable}
 use Rattle.dirty_board.specs.Needing.{is_among}
 use Rattle.dirty_board.specs.Rooms.{pairs_of, with_pair, without_pairs, AreNew}
-use Rattle.dirty_board.proofs.Order.{after_more, below_trans, none_after, none_below, not_below, not_itself, other_above, other_below, same_is}
+use Rattle.dirty_board.proofs.Order.{after_more, below_trans, none_after, none_below, not_below, not_itself, same_is}
 use Rattle.dirty_board.proofs.Lookups.{same_itself}
 use Rattle.dirty_board.proofs.Tests.{any_more}
 
@@ -96,7 +96,7 @@ all_above : (p : Pair) (rs : List Row) → AreAfter p rs → filter (λ (r : Row
 all_above p [] a = refl
 all_above p (r ∷ rs) a = rw (a.0, all_above p rs a.1)
 
-inserted_with : (p : Pair) (rows : List Row) → AreAscending rows → row_place p rows ≡ None → inserted p rows ≡ with_pair rows p
+pub inserted_with : (p : Pair) (rows : List Row) → AreAscending rows → row_place p rows ≡ None → inserted p rows ≡ with_pair rows p
 inserted_with p [] a e = refl
 inserted_with p (r ∷ rs) a e =
     let none : (same_pair p r.pair ≡ false) × (row_place p rs ≡ None) = none_parts p r rs e in
@@ -127,6 +127,9 @@ ascending_inserted p (r ∷ rs) a e =
       | false ↦ λ h. let above : below p r.pair ≡ true = not_below r.pair p h none.0 in ((above, after_more p r.pair rs above a.0), a)
     ] in
     at refl
+
+pub ascending_with_pair : (p : Pair) (rows : List Row) → AreAscending rows → row_place p rows ≡ None → AreAscending (with_pair rows p)
+ascending_with_pair p rows a e = subst AreAscending (inserted_with p rows a e) (ascending_inserted p rows a e)
 
 pub insert_is : (p : Pair) (rows : List Row) → AreAscending rows → row_place p rows ≡ None → insert rows (prefix_len (λ r. below r.pair p) rows) (new_row p) ≡ with_pair rows p
 insert_is p rows a e = insert_inserted p rows ∙ inserted_with p rows a e

@@ -1,8 +1,8 @@
 -- Tallies after one verdict changes.
-use Rattle.std.proofs.Common.{not, ◌≡◌, ℕ, suc, zero, ◌+◌, ◌-◌, ◌<◌, ◌≤◌, Bool, true, false, cond, ◌==◌, nat_lt, if◌then◌else◌, List, [], ◌∷◌, ◌++◌, length, take, drop, map, filter, Option, Some, None, refl, arith, ap, sym, subst, ◌∙◌, inl, inr, get_or, set, length-append}
+use Rattle.std.proofs.Common.{◌≡◌, ℕ, suc, zero, ◌+◌, ◌<◌, ◌≤◌, Bool, true, false, cond, ◌==◌, nat_lt, if◌then◌else◌, List, [], ◌∷◌, ◌++◌, length, take, drop, map, filter, Option, Some, None, refl, arith, ap, sym, subst, ◌∙◌, get_or, set, length-append}
 use Rattle.std.specs.List.{cons_option, filter_map}
 use Rattle.std.specs.Option.{option_to_list}
-use Rattle.std.proofs.lemmas.Bool.{cases_lt, lt-ltb, le-ltb, eqb-true, eq-eqb, ne_eqb}
+use Rattle.std.proofs.lemmas.Bool.{eqb-true, eq-eqb, ne_eqb}
 use Rattle.std.proofs.lemmas.List.{take-append-drop}
 use Rattle.std.proofs.lemmas.List.Elements.{filter-append, filter_map-append}
 use Rattle.audit_model.specs.declared.specification.Occurs.{Occurs}
@@ -16,7 +16,7 @@ use Rattle.audit_model.specs.declared.report.Tally.{Tally}
 use Rattle.audit_model.specs.Scratch.{applies, failing_of, tally_from, skipped_tally}
 use Rattle.dirty_board.specs.declared.rows.Row.{Row}
 use Rattle.dirty_board.specs.declared.rows.Kept.{Kept}
-use Rattle.dirty_board.specs.Rows.{kept_in, row_at, AreAscending, dropping, new_row, with_row, without_row}
+use Rattle.dirty_board.specs.Rows.{kept_in, row_at, AreAscending, dropping, with_row, without_row}
 use Rattle.dirty_board.specs.Tallying.{empty_tally, failing_by, heading_in, heading_of, is_counted, recounted, retold, tallies_from, tally_by, verdicts_of, with_elem, with_failing, with_tally, AllRising, AreOver, AreRising, Heading}
 use Rattle.dirty_board.proofs.TallyLaws.{changed_one, gone_one, held_one, kept_other, with_verdict, AreAbove, IsListed, above_after, first_row}
 

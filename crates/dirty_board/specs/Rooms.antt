@@ -1,5 +1,5 @@
 -- What a commit does to the rows: some pairs go, others come.
-use Rattle.std.specs.Prelude.{◌≡◌, ℕ, Bool, false, not, List, [], ◌∷◌, ◌++◌, map, filter, fold}
+use Rattle.std.specs.Prelude.{◌≡◌, ℕ, false, not, List, [], ◌∷◌, ◌++◌, map, filter, fold}
 use Rattle.audit_model.specs.declared.verdict.Pair.{Pair}
 use Rattle.dirty_board.specs.declared.rows.Row.{Row}
 use Rattle.dirty_board.specs.Rows.{below, new_row}

@@ -70,6 +70,11 @@ needs_key k r = kept_needs r.kept k
 abbrev pub without_key : Key → Row → Row
 without_key k r = if needs_key k r then dropping r else r
 
+-- what is dropped of the row, if there is one, where it needs the key
+abbrev pub dropped_in : Key → Option Row → Option Kept
+dropped_in k None = None
+dropped_in k (Some r) = if needs_key k r then r.kept else None
+
 -- what is kept of one of these pairs is dropped, if it needs the key
 abbrev pub dropped_among : List Pair → Key → Row → Row
 dropped_among ps k r = if list_any (λ q. same_pair q r.pair) ps then without_key k r else r

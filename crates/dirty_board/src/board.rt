@@ -4,14 +4,14 @@ ghost use Rattle.dirty_board.specs.Rows.{dropped_among, keeping, least_claimable
 ghost use Rattle.audit_model.specs.Laws.{ArePairsAscending};
 ghost use Rattle.dirty_board.specs.Needing.{is_among};
 ghost use Rattle.dirty_board.specs.Rooms.{pairs_of, replaced, without_pairs, AreNew};
-ghost use Rattle.dirty_board.specs.Tallying.{having, heading_of};
+ghost use Rattle.dirty_board.specs.Tallying.{having, heading_of, tallies_from};
 
 use crate::index::{Index, add_needs};
 use crate::ledger::Ledger;
 use crate::room::Room;
 use crate::rows::{BoxedKept, Kept, Row};
 use crate::table::place_of;
-use audit_model::{Pair, Specification, Verdict};
+use audit_model::{Pair, Specification, Tally, Verdict};
 use ifc_base::{Key, Keys, Memory};
 use std::alloc::Global;
 use std::collections::BTreeMap;
@@ -75,6 +75,13 @@ impl Board {
         self.ledger.table().rows()
     }
 
+    /// The tallies of the verdicts that are kept, one for each specification, in order. `O(1)`.
+    pub fn tallies(&self) -> &[Tally]
+        ensures { result.now ≡ tallies_from 1 self.now.headings self.now.rows }
+    {
+        self.ledger.tallies()
+    }
+
     /// The verdict that is kept of the pair, if it is listed and settled. `O(log n)`.
     pub fn verdict(&self, pair: Pair) -> Option<&Verdict>
         ensures { option_copied result ≡ verdict_kept (row_at pair self.now.rows) }
@@ -90,7 +97,7 @@ impl Board {
 
     /// Keeps what was found of the pair, which is then settled. All memory is taken first: for want of it
     /// the board stays and what was found comes back. Of a pair that isn't listed nothing is kept.
-    /// `O(k log n)` for `k` needed keys.
+    /// `O(k log n)` for `k` needed keys, and a move of failing elements of the specification.
     pub fn settle(
         &mut self,
         alloc: Global,
@@ -98,7 +105,8 @@ impl Board {
         verdict: Verdict,
         needs: Keys,
     ) -> Result<(), (Memory, Verdict, Keys)>
-        ensures rows { OnOk result (self.new ≡ having (with_row pair (keeping (record { verdict = verdict; needs = needs })) self.old.rows) self.old) }
+        ensures rows { OnOk result (self.new ≡
+            having (with_row pair (keeping (record { verdict = verdict; needs = needs })) self.old.rows) self.old) }
         ensures stays { OnErr result (self.new ≡ self.old) }
         ensures back { IfErr result (λ back. (back.1 ≡ verdict) × (back.2 ≡ needs)) }
     {
@@ -111,15 +119,18 @@ impl Board {
                 let back = kept.into_inner();
                 Err((Memory, back.verdict, back.needs))
             }
-            Ok(()) => {
-                self.ledger.keep(pair, kept);
-                Ok(())
-            }
+            Ok(()) => match self.ledger.keep(pair, kept) {
+                Ok(()) => Ok(()),
+                Err(kept) => {
+                    let back = kept.into_inner();
+                    Err((Memory, back.verdict, back.needs))
+                }
+            },
         }
     }
 
     /// Unsettles the pairs that need the key. `O(p * (log n + k))` for the `p` pairs under it, of `k` keys
-    /// each.
+    /// each, and for each that is dropped a move of failing elements of its specification.
     fn mark_one(&mut self, key: Key)
         ensures { self.new ≡ having (map (without_key key) self.old.rows) self.old }
     {
@@ -128,7 +139,9 @@ impl Board {
         }
     }
 
-    /// Unsettles the pairs that need one of the keys. It takes no memory.
+    /// Unsettles the pairs that need one of the keys. It takes no memory. For each key `O(p * (log n + k))`
+    /// for the `p` pairs under it, of `k` keys each, and for each pair that is dropped a move of failing
+    /// elements of its specification.
     pub fn mark(&mut self, keys: &Keys)
         ensures { self.new ≡ having (marked keys.now self.old.rows) self.old }
     {
@@ -176,8 +189,8 @@ impl Board {
     /// Takes out the pairs that go and adds those that come, unsettled and not out, each in its place;
     /// the others keep what is kept of them and their marks. It takes no memory. It asks that there are
     /// no more rows than the room was made for, and that the pairs that come are distinct and not
-    /// listed. Where none goes or comes it costs nothing; else for each pair `O(log n)` and a move of
-    /// the rows behind it.
+    /// listed. Where none goes or comes it costs nothing; else for each pair `O(log n)`, a move of the
+    /// rows behind it and, where a verdict goes with it, of failing elements of its specification.
     pub fn replace_pairs(&mut self, room: Room)
         requires size { length self.old.rows ≤ room.size }
         requires fresh { AreNew (pairs_of self.old.rows) room.come }

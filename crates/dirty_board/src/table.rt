@@ -4,14 +4,16 @@ ghost use Rattle.std.specs.List.{list_any, prefix_len};
 ghost use Rattle.audit_model.specs.Pairs.{same_pair};
 ghost use Rattle.audit_model.specs.Laws.{ArePairsAscending};
 ghost use Rattle.ifc_base.specs.KeyOrder.{key_eq};
-ghost use Rattle.dirty_board.specs.Rows.{below, row_at, row_place, with_row, without_row, keeping, kept_in, dropping, marking, without_key, needs_key, kept_needs, new_row};
+ghost use Rattle.dirty_board.specs.Rows.{below, row_at, row_place, with_row, without_row, keeping, kept_in, dropped_in, dropping, marking, without_key, needs_key, kept_needs, new_row};
 ghost use Rattle.dirty_board.specs.Rows.{least_unsettled, least_claimable, AreAscending, is_claimable, is_unsettled, IsTable};
 ghost use Rattle.dirty_board.specs.Rooms.{pairs_of, with_pair, AreNew};
+ghost use Rattle.dirty_board.specs.Tallying.{counted_in, is_counted};
 
 use crate::adding::{TableSpace, add_rows};
 use crate::flags::Flags;
 use crate::moves::move_within;
 use crate::rows::{BoxedKept, Row};
+use crate::tallies::applies;
 use audit_model::Pair;
 use ifc_base::{Key, Memory};
 use std::alloc::Global;
@@ -73,6 +75,16 @@ fn needs(row: &Row, key: Key) -> bool
     match &row.kept {
         None => false,
         Some(kept) => has_key(kept.get().needs.as_slice(), key),
+    }
+}
+
+/// Whether what is kept says that the specification applies.
+fn is_counted(row: &Row) -> bool
+    ensures { result ≡ is_counted row.now.kept }
+{
+    match &row.kept {
+        None => false,
+        Some(kept) => applies(&kept.get().verdict),
     }
 }
 
@@ -178,18 +190,36 @@ impl Table {
         }
     }
 
-    /// Drops what is kept in the pair's row, if it needs the key. It takes no memory. `O(log n + k)` for
-    /// `k` needed keys.
-    pub fn unsettle(&mut self, pair: Pair, key: Key)
+    /// Whether what is kept in the pair's row says that the specification applies, if the pair has a row.
+    /// `O(log n)`.
+    pub fn counts(&self, pair: Pair) -> Option<bool>
+        ensures ascending { AreAscending self.now }
+        ensures value { result ≡ counted_in (row_at pair self.now) }
+    {
+        match place_of(&self.rows, pair) {
+            None => None,
+            Some(place) => Some(is_counted(&self.rows[place])),
+        }
+    }
+
+    /// Drops what is kept in the pair's row, if it needs the key, and hands it out. It takes no memory.
+    /// `O(log n + k)` for `k` needed keys.
+    pub fn unsettle(&mut self, pair: Pair, key: Key) -> Option<BoxedKept>
         ensures ascending { AreAscending self.old }
         ensures rows { self.new ≡ with_row pair (without_key key) self.old }
+        ensures dropped { result ≡ dropped_in key (row_at pair self.old) }
     {
-        if let Some(place) = place_of(&self.rows, pair) {
-            if needs(&self.rows[place], key) {
+        match place_of(&self.rows, pair) {
+            None => None,
+            Some(place) => {
+                if !needs(&self.rows[place], key) {
+                    return None;
+                }
                 let claimable = !self.rows[place].out;
-                self.rows[place].kept = None;
+                let dropped = self.rows[place].kept.take();
                 self.unsettled.put(place, true);
                 self.claimable.put(place, claimable);
+                dropped
             }
         }
     }
@@ -241,7 +271,8 @@ impl Table {
     pub fn add_all(&mut self, come: &[Pair], space: TableSpace)
         requires fresh { AreNew (pairs_of self.old) come.now }
         requires memory { length self.old + length come.now ≤ space }
-        ensures { self.new ≡ fold with_pair self.old come.now }
+        ensures ascending { AreAscending self.old }
+        ensures rows { self.new ≡ fold with_pair self.old come.now }
     {
         let TableSpace {
             rows,

@@ -1,4 +1,4 @@
-use Rattle.std.proofs.Common.{◌≡◌, ◌∙◌, ◌<◌, ◌≤◌, ap, sym, arith, length, not}
+use Rattle.std.proofs.Common.{◌≡◌, ◌∙◌, ◌≤◌, ap, sym, arith, length, not}
 use Rattle.dirty_board.specs.declared.rows.Row.{Row}
 use Rattle.dirty_board.specs.Needing.{is_among}
 use Rattle.dirty_board.specs.Rooms.{pairs_of, without_pairs, AreNew}

@@ -1,4 +1,4 @@
-use Rattle.std.proofs.Common.{◌≡◌, ◌∙◌, ◌<◌, ◌-◌, sym, ap, subst, arith, length, set, None}
+use Rattle.std.proofs.Common.{◌∙◌, ◌<◌, ◌-◌, sym, ap, subst, arith, length, set, None}
 use Rattle.audit_model.specs.declared.report.Tally.{Tally}
 use Rattle.dirty_board.specs.Tallying.{retold, AllRising, AreRising}
 use Rattle.dirty_board.proofs.Tallied.{rising_at, set_tally, stay_high, stay_low}

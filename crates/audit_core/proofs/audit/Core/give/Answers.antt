@@ -8,7 +8,7 @@ invariant_of-self-2 c =
     let least = rw (← c.self.view_is) at c.requires.least in
     let full = rw (← c.self.view_is) at c.requires.not_full in
     let room = rw (← c.self.view_is) at c.requires.room in
-    rw (c.push_reserved-2.ensures.entries, reverse-append, c.push_reserved-2.ensures.room, c.push_reserved.ensures.items, c.reserve.ensures.items, c.revision-revision.ensures)
+    rw (c.push_reserved-2.ensures.entries, reverse-append, c.push_reserved-2.ensures.room, c.push_reserved.ensures.items, c.reserve.ensures.items, c.revision-revision.ensures, c.take_out.ensures)
     (kept_claimed c.args.actor c.args.pair.now c.self.invariant least (room_left c.self.inside.journal.entries c.self.inside.claims.items _ 2 (omega arith) room) (few_left c.self.invariant 2 full))
 
 pub returns-clause-given : goal.returns-clause-given

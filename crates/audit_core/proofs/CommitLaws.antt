@@ -1,12 +1,12 @@
--- What an accepted commit leaves of the rows, and the core's fields after it.
-use Rattle.std.proofs.Common.{◌≡◌, ℕ, suc, ◌+◌, ◌<◌, ◌≤◌, Bool, true, false, not, ◌&&◌, ◌||◌, ◌==◌, cond, if◌then◌else◌, nat_lt, List, [], ◌∷◌, map, find, is_none, length, Option, Some, None, refl, arith, ap, sym, subst, ◌∙◌}
+-- What an accepted commit makes of the rows, and the core's fields after it.
+use Rattle.std.proofs.Common.{◌≡◌, ℕ, suc, ◌+◌, ◌<◌, ◌≤◌, Bool, true, false, not, ◌&&◌, ◌||◌, ◌==◌, cond, if◌then◌else◌, nat_lt, List, [], ◌∷◌, map, filter, fold, length, Option, Some, None, refl, arith, ap, sym, subst, ◌∙◌}
 use Rattle.std.specs.List.{list_any, list_all}
 use Rattle.std.specs.FinMap.{FinMap}
 use Rattle.std.specs.Ordering.{nat_cmp}
-use Rattle.std.proofs.lemmas.Bool.{false≢true, and_parts, or_parts, lt-ltb, le-ltb, ltb-true}
+use Rattle.std.proofs.lemmas.Bool.{false≢true, true≢false, ltb-true}
 use Rattle.ifc_base.specs.declared.value.Instance.{Instance}
 use Rattle.ifc_base.specs.declared.key.Key.{Key}
-use Rattle.ifc_base.specs.KeyOrder.{key_eq}
+use Rattle.ifc_base.specs.KeyOrder.{key_eq, key_eq-Decides}
 use Rattle.schema_table.specs.Schema.{Schema}
 use Rattle.audit_model.specs.declared.commit.Edit.{Edit}
 use Rattle.audit_model.specs.declared.commit.Edit.TheVariants.{Add, Set, Remove}
@@ -19,181 +19,203 @@ use Rattle.audit_model.specs.declared.step.Given.{Given}
 use Rattle.audit_model.specs.declared.step.StepRec.{StepRec}
 use Rattle.audit_model.specs.declared.step.Call.TheVariants.{Commit}
 use Rattle.audit_model.specs.declared.step.Reply.TheVariants.{Accepted}
-use Rattle.audit_model.specs.Models.{with_instance, instance_at}
+use Rattle.audit_model.specs.Models.{IsModel, with_instance, instance_at}
 use Rattle.audit_model.specs.Edits.{edit_id, edited, apply, with_attribute}
 use Rattle.audit_model.specs.Keys.{changes, keeps_all}
 use Rattle.audit_model.specs.Needs.{need}
-use Rattle.audit_model.specs.Pairs.{pairs, same_pair}
+use Rattle.audit_model.specs.Pairs.{pairs, NumberedFrom}
 use Rattle.audit_model.specs.Judging.{judge_from, fault_of, conflict_of, id_fault_of, attribute_fault_given, schema_fault_given, room_fault_of, refused_or}
-use Rattle.audit_model.specs.History.{Ground, AllModels, commits, used, current, revision, last_of, last_change, model_after, settled_by}
-use Rattle.audit_model.proofs.Apart.{AreApart, apart_pairs, same_pair-true}
+use Rattle.audit_model.specs.History.{Ground, AllModels, commits, used, out, current, revision, last_of, last_change, model_after, settled_by}
+use Rattle.audit_model.specs.Machine.{pairs_now}
+use Rattle.audit_model.proofs.Apart.{apart_pairs}
 use Rattle.audit_model.proofs.Claims.{IsSound, sound_used}
 use Rattle.audit_model.proofs.EditLaws.{edits_accepted, model_applied, or_none}
 use Rattle.audit_model.specs.FacetLaws.{Stays}
 use Rattle.audit_model.proofs.Frame.{stays}
 use Rattle.audit_model.proofs.PairLaws.{settled_commit, settled_pair, model_now}
-use Rattle.audit_model.proofs.Tests.{Each, filter-length}
+use Rattle.audit_model.proofs.PairOrder.{pairs_ascend}
+use Rattle.audit_model.proofs.Tests.{Each, Each-filter, filter-length, or_true}
 use Rattle.model_view.specs.Views.{SnapshotView}
-use Rattle.audit_core.specs.declared.board.Row.{Row}
-use Rattle.audit_core.specs.declared.board.Kept.{Kept}
 use Rattle.inverse_index.specs.Log.{last_in}
+use Rattle.inverse_index.specs.Changed.{KeysAscend}
+use Rattle.dirty_board.specs.declared.rows.Row.{Row}
+use Rattle.dirty_board.specs.declared.rows.Kept.{Kept}
+use Rattle.dirty_board.specs.Needing.{is_among}
+use Rattle.dirty_board.specs.Rows.{dropping, marked, needs_key, new_row, unsettled_by}
+use Rattle.dirty_board.specs.Rooms.{pairs_of, replaced, with_pair, without_pairs, AreNew}
+use Rattle.dirty_board.specs.Tallying.{BoardView, having}
 use Rattle.audit_core.specs.Commits.{IsPlan}
 use Rattle.audit_core.specs.Kept.{IsKept}
-use Rattle.audit_core.specs.Rows.{board_by, row_by, empty_row, found, settled_rows, stays_kept, kept_over, carried_row, carried, AreAscending}
+use Rattle.audit_core.specs.Rows.{board_by, found, is_of, lost, row_by, taken_out}
+use Rattle.audit_core.proofs.Boards.{pairs_on_board}
 use Rattle.audit_core.proofs.First.{length-with_instance}
-use Rattle.audit_core.proofs.PairOrder.{empty_ascends}
+use Rattle.audit_core.proofs.Lost.{AreChanges, come_new, comes_new, exchanged}
+use Rattle.audit_core.proofs.Rowed.{row_with, rowed, agree_rowed, all_rowed, filter_rowed, pairs_rowed, same_rowed, taken_rowed}
+use Rattle.audit_core.proofs.SamePairs.{inserted, among_all, among_left, each_among, in_order, left_in_order, order_all, same_list}
+
+-- Marked keys.
+
+or_false : (a : Bool) → (a || false) ≡ a
+or_false true = refl
+or_false false = refl
+
+and_false : (a : Bool) → (a && false) ≡ false
+and_false true = refl
+and_false false = refl
+
+any_none : {X : Type 0} (xs : List X) → list_any (λ (x : X). false) xs ≡ false
+any_none [] = refl
+any_none (x ∷ xs) = any_none xs
+
+or_two : (a b c d : Bool) → ((a || b) || (c || d)) ≡ ((a || c) || (b || d))
+or_two true b c d = refl
+or_two false true true d = refl
+or_two false true false d = refl
+or_two false false c d = refl
+
+any_or : {X : Type 0} (t u : X → Bool) (xs : List X) → list_any (λ x. t x || u x) xs ≡ (list_any t xs || list_any u xs)
+any_or t u [] = refl
+any_or t u (x ∷ xs) = rw (any_or t u xs) (or_two (t x) (u x) (list_any t xs) (list_any u xs))
+
+any_same : {X : Type 0} (f g : X → Bool) → ((x : X) → f x ≡ g x) → (xs : List X) → list_any f xs ≡ list_any g xs
+any_same f g h [] = refl
+any_same f g h (x ∷ xs) = rw (h x, any_same f g h xs)
 
 bool_same : (a b : Bool) → (a ≡ true → b ≡ true) → (b ≡ true → a ≡ true) → a ≡ b
 bool_same true b f g = sym (f refl)
 bool_same false true f g = g refl
 bool_same false false f g = refl
 
-map_agree : {A B : Type 0} (f h : A → B) → ((x : A) → f x ≡ h x) → (xs : List A) → map f xs ≡ map h xs
-map_agree f h e [] = refl
-map_agree f h e (x ∷ xs) = λ i. e x i ∷ map_agree f h e xs i
+key_swap : (j k : Key) → key_eq j k ≡ key_eq k j
+key_swap j k = bool_same (key_eq j k) (key_eq k j) (λ e. (key_eq-Decides k j).1 (sym ((key_eq-Decides j k).0 e))) (λ e. (key_eq-Decides j k).1 (sym ((key_eq-Decides k j).0 e)))
 
--- What stays kept, by a test.
+no_more : (c a : Bool) → (c || not a) ≡ not (not c && a)
+no_more true a = refl
+no_more false a = refl
 
--- the row of a pair, kept where the pair passes the test
-abbrev row_if : (Pair → Bool) → (Pair → Kept) → Pair → Row
-row_if s f p = record { pair = p; kept = if s p then Some (f p) else None }
-
-same_rows : (s : Pair → Bool) (f : Pair → Kept) (p : Pair) (qs : List Pair) → list_any (same_pair p) qs ≡ false → map (row_if s f) qs ≡ map (row_if (λ q. same_pair p q || s q) f) qs
-same_rows s f p [] e = refl
-same_rows s f p (q ∷ qs) e =
-    let neither : (same_pair p q ≡ false) × (list_any (same_pair p) qs ≡ false) = or_parts (same_pair p q) (list_any (same_pair p) qs) e in
-    rw (neither.0, same_rows s f p qs neither.1)
-
--- keeping what is found of a pair adds it to those that pass
-set_one : (s : Pair → Bool) (f : Pair → Kept) (p : Pair) (qs : List Pair) → AreApart qs → settled_rows p (f p) (map (row_if s f) qs) ≡ map (row_if (λ q. same_pair p q || s q) f) qs
-set_one s f p [] a = refl
-set_one s f p (q ∷ qs) a =
-    let F : Bool → Type 0 = λ b. same_pair p q ≡ b → (if b then (record { pair = q; kept = Some (f p) } ∷ map (row_if s f) qs) else (row_if s f q ∷ settled_rows p (f p) (map (row_if s f) qs))) ≡ record { pair = q; kept = if (b || s q) then Some (f q) else None } ∷ map (row_if (λ r. same_pair p r || s r) f) qs in
-    let at : F (same_pair p q) = elim (same_pair p q) as F [
-      | true ↦ λ e.
-          let same : p ≡ q = same_pair-true p q e in
-          let rest : map (row_if s f) qs ≡ map (row_if (λ r. same_pair p r || s r) f) qs = same_rows s f p qs (rw same a.0) in
-          λ i. record { pair = q; kept = Some (f (same i)) } ∷ rest i
-      | false ↦ λ e. ap (λ (rs : List Row). row_if s f q ∷ rs) (set_one s f p qs a.1)
-    ] in
-    at refl
-
--- The rows of one model carried over to those of the next.
+-- one of these keys is needed exactly where not all needed ones are kept
+touched : (keys needs : List Key) (c : Key → Bool) → ((k : Key) → list_any (λ j. key_eq j k) keys ≡ c k) → list_any (λ k. list_any (λ j. key_eq j k) needs) keys ≡ not (list_all (λ k. not (c k)) needs)
+touched keys [] c e = any_none keys
+touched keys (n ∷ ns) c e =
+    any_or (λ k. key_eq n k) (λ k. list_any (λ j. key_eq j k) ns) keys
+    ∙ (λ i. (any_same (λ k. key_eq n k) (λ k. key_eq k n) (key_swap n) keys ∙ e n) i || touched keys ns c e i)
+    ∙ no_more (c n) (list_all (λ k. not (c k)) ns)
 
 found_same : (c : Schema) (specs : List Specification) (p : Pair) (m n : List Instance) → Stays c specs p m n → found c specs m p ≡ found c specs n p
 found_same c specs p m n s = λ i. record { verdict = sym s.verdict_stays i; needs = sym s.need_stays i }
 
-none_all : {X : Type 0} (t : X → Bool) (xs : List X) → is_none (find t xs) ≡ list_all (λ x. not (t x)) xs
-none_all t [] = refl
-none_all {X} t (x ∷ xs) = elim (t x) as (λ b. is_none (cond b (Some x) (find t xs)) ≡ (not b && list_all (λ y. not (t y)) xs)) [ true ↦ refl | false ↦ none_all t xs ]
+-- The commit from the model m to the model n changes just these keys, in their order.
+abbrev IsChange : Ground → List Edit → List (List Edit) → List Key → Type 0
+IsChange g edits cs keys = AreChanges g.schema (model_after g cs) (apply g.schema (model_after g cs) edits) keys
 
-all_agree : {X : Type 0} (t u : X → Bool) → ((x : X) → t x ≡ u x) → (xs : List X) → list_all t xs ≡ list_all u xs
-all_agree t u e [] = refl
-all_agree t u e (x ∷ xs) = rw (e x, all_agree t u e xs)
+abbrev keeps : Ground → List Edit → List (List Edit) → Pair → Bool
+keeps g edits cs p = keeps_all g.schema (model_after g cs) (apply g.schema (model_after g cs) edits) (need g.schema g.specs p (model_after g cs))
 
--- the last change of a key is no later than the last commit
-last_early : (g : Ground) (cs : List (List Edit)) (k : Key) → last_of g cs k ≤ length cs
-last_early g [] k = omega arith
-last_early g (edits ∷ cs) k =
-    let rest : last_of g cs k ≤ length cs = last_early g cs k in
-    elim (changes g.schema (model_after g cs) (apply g.schema (model_after g cs) edits) k) as (λ b. (if b then length cs + 1 else last_of g cs k) ≤ length (edits ∷ cs)) [ true ↦ omega arith | false ↦ omega arith ]
+kept_row : (g : Ground) (edits : List Edit) (cs : List (List Edit)) (held : List Given) (p : Pair) (b : Bool) → keeps g edits cs p ≡ b →
+    (if not b then row_with p None (is_of held p) else row_with p (Some (found g.schema g.specs (model_after g cs) p)) (is_of held p)) ≡ row_with p (if b then Some (found g.schema g.specs (apply g.schema (model_after g cs) edits) p) else None) (is_of held p)
+kept_row g edits cs held p true e =
+    ap (λ (k : Kept). row_with p (Some k) (is_of held p)) (found_same g.schema g.specs p (model_after g cs) (apply g.schema (model_after g cs) edits) (stays g.schema g.specs p (model_after g cs) (apply g.schema (model_after g cs) edits) e))
+kept_row g edits cs held p false e = refl
 
-later_is : (b : Bool) (n last : ℕ) → last ≤ n → nat_lt n (if b then n + 1 else last) ≡ b
-later_is true n last l = lt-ltb n (n + 1) (omega arith)
-later_is false n last l = le-ltb n last l
+-- a row after the changed keys were marked, by whether its pair was settled
+marked_if : (g : Ground) (edits : List Edit) (cs : List (List Edit)) (held : List Given) (keys : List Key) (p : Pair) → IsChange g edits cs keys → (b : Bool) →
+    unsettled_by keys (record { pair = p; kept = if b then Some (found g.schema g.specs (model_after g cs) p) else None; out = is_of held p }) ≡ record { pair = p; kept = if (b && keeps g edits cs p) then Some (found g.schema g.specs (apply g.schema (model_after g cs) edits) p) else None; out = is_of held p }
+marked_if g edits cs held keys p c true =
+    ap (λ (b : Bool). if b then dropping (record { pair = p; kept = Some (found g.schema g.specs (model_after g cs) p); out = is_of held p }) else record { pair = p; kept = Some (found g.schema g.specs (model_after g cs) p); out = is_of held p }) (touched keys (need g.schema g.specs p (model_after g cs)) (changes g.schema (model_after g cs) (apply g.schema (model_after g cs) edits)) c)
+    ∙ kept_row g edits cs held p (keeps g edits cs p) refl
+marked_if g edits cs held keys p c false =
+    ap (λ (b : Bool). if b then dropping (record { pair = p; kept = None; out = is_of held p }) else record { pair = p; kept = None; out = is_of held p }) (any_none keys)
 
--- what is kept of a pair stays kept where the commit changes none of its needs
-stays_is : (g : Ground) (edits : List Edit) (cs : List (List Edit)) (p : Pair) → stays_kept (last_of g (edits ∷ cs)) (length cs) (found g.schema g.specs (model_after g cs) p) ≡ keeps_all g.schema (model_after g cs) (apply g.schema (model_after g cs) edits) (need g.schema g.specs p (model_after g cs))
-stays_is g edits cs p =
-    none_all (λ k. nat_lt (length cs) (last_of g (edits ∷ cs) k)) (need g.schema g.specs p (model_after g cs))
-    ∙ all_agree (λ k. not (nat_lt (length cs) (last_of g (edits ∷ cs) k))) (λ k. not (changes g.schema (model_after g cs) (apply g.schema (model_after g cs) edits) k))
-    (λ k. ap not (later_is (changes g.schema (model_after g cs) (apply g.schema (model_after g cs) edits) k) (length cs) (last_of g cs k) (last_early g cs k))) (need g.schema g.specs p (model_after g cs))
+map_map : {A B C : Type 0} (f : B → C) (h : A → B) (k : A → C) → ((x : A) → f (h x) ≡ k x) → (xs : List A) → map f (map h xs) ≡ map k xs
+map_map f h k e [] = refl
+map_map f h k e (x ∷ xs) = λ i. e x i ∷ map_map f h k e xs i
 
--- a settled pair of which the commit changes no need
-abbrev carries : Ground → List Edit → List (List Edit) → List Given → Pair → Bool
-carries g edits cs us p = settled_by g cs us p && keeps_all g.schema (model_after g cs) (apply g.schema (model_after g cs) edits) (need g.schema g.specs p (model_after g cs))
-
-carry_step : (g : Ground) (edits : List Edit) (cs : List (List Edit)) (us : List Given) (s : Pair → Bool) (p : Pair) (qs : List Pair) → AreApart qs →
-    carried_row (last_of g (edits ∷ cs)) (length cs) (map (row_if s (found g.schema g.specs (apply g.schema (model_after g cs) edits))) qs) (row_by g cs us p) ≡ map (row_if (λ q. (carries g edits cs us p && same_pair p q) || s q) (found g.schema g.specs (apply g.schema (model_after g cs) edits))) qs
-carry_step g edits cs us s p qs a =
-    let m : List Instance = model_after g cs in
-    let n : List Instance = apply g.schema (model_after g cs) edits in
-    let f : Pair → Kept = found g.schema g.specs (apply g.schema (model_after g cs) edits) in
-    let K : Bool → Type 0 = λ b. keeps_all g.schema m n (need g.schema g.specs p m) ≡ b → (if b then settled_rows p (found g.schema g.specs m p) (map (row_if s f) qs) else map (row_if s f) qs) ≡ map (row_if (λ q. (b && same_pair p q) || s q) f) qs in
-    let inner : K (keeps_all g.schema m n (need g.schema g.specs p m)) = elim (keeps_all g.schema m n (need g.schema g.specs p m)) as K [
-      | true ↦ λ e. ap (λ (k : Kept). settled_rows p k (map (row_if s f) qs)) (found_same g.schema g.specs p m n (stays g.schema g.specs p m n e)) ∙ set_one s f p qs a
-      | false ↦ λ e. refl
-    ] in
-    let F : Bool → Type 0 = λ b. kept_over (last_of g (edits ∷ cs)) (length cs) p (if b then Some (found g.schema g.specs m p) else None) (map (row_if s f) qs) ≡ map (row_if (λ q. ((b && keeps_all g.schema m n (need g.schema g.specs p m)) && same_pair p q) || s q) f) qs in
-    elim (settled_by g cs us p) as F [
-      | true ↦ ap (λ (b : Bool). if b then settled_rows p (found g.schema g.specs m p) (map (row_if s f) qs) else map (row_if s f) qs) (stays_is g edits cs p) ∙ inner refl
-      | false ↦ refl
-    ]
-
--- one of these pairs is q and carries, or b
-abbrev any_over : (Pair → Bool) → List Pair → Pair → Bool → Bool
-any_over c [] q b = b
-any_over c (p ∷ ps) q b = any_over c ps q ((c p && same_pair p q) || b)
-
-carry_all : (g : Ground) (edits : List Edit) (cs : List (List Edit)) (us : List Given) (s : Pair → Bool) (ps qs : List Pair) → AreApart qs →
-    carried (last_of g (edits ∷ cs)) (length cs) (map (row_if s (found g.schema g.specs (apply g.schema (model_after g cs) edits))) qs) (map (row_by g cs us) ps) ≡ map (row_if (λ q. any_over (carries g edits cs us) ps q (s q)) (found g.schema g.specs (apply g.schema (model_after g cs) edits))) qs
-carry_all g edits cs us s [] qs a = refl
-carry_all g edits cs us s (p ∷ ps) qs a =
-    ap (λ (rs : List Row). carried (last_of g (edits ∷ cs)) (length cs) rs (map (row_by g cs us) ps)) (carry_step g edits cs us s p qs a)
-    ∙ carry_all g edits cs us (λ q. (carries g edits cs us p && same_pair p q) || s q) ps qs a
-
-or_swap : (a b c : Bool) → (a || (b || c)) ≡ ((b || a) || c)
-or_swap true true c = refl
-or_swap true false c = refl
-or_swap false true c = refl
-or_swap false false c = refl
-
-over_any : (c : Pair → Bool) (ps : List Pair) (q : Pair) (b : Bool) → any_over c ps q b ≡ (list_any (λ p. c p && same_pair p q) ps || b)
-over_any c [] q b = refl
-over_any c (p ∷ ps) q b = over_any c ps q ((c p && same_pair p q) || b) ∙ or_swap (list_any (λ r. c r && same_pair r q) ps) (c p && same_pair p q) b
-
-or_false : (a : Bool) → (a || false) ≡ a
-or_false true = refl
-or_false false = refl
-
-some_to : (c : Pair → Bool) (ps : List Pair) (q : Pair) → list_any (λ p. c p && same_pair p q) ps ≡ true → c q ≡ true
-some_to c [] q e = absurd (false≢true e)
-some_to c (p ∷ ps) q e =
-    let F : Bool → Type 0 = λ b. (c p && same_pair p q) ≡ b → (b || list_any (λ r. c r && same_pair r q) ps) ≡ true → c q ≡ true in
-    let at : F (c p && same_pair p q) = elim (c p && same_pair p q) as F [
-      | true ↦ λ k t. let both : (c p ≡ true) × (same_pair p q ≡ true) = and_parts (c p) (same_pair p q) k in subst (λ (x : Pair). c x ≡ true) (same_pair-true p q both.1) both.0
-      | false ↦ λ k t. some_to c ps q t
-    ] in
-    at refl e
-
-to_some : (c : Pair → Bool) (ps : List Pair) (q : Pair) → list_any (λ r. same_pair r q) ps ≡ true → c q ≡ true → list_any (λ p. c p && same_pair p q) ps ≡ true
-to_some c [] q e k = absurd (false≢true e)
-to_some c (p ∷ ps) q e k =
-    let F : Bool → Type 0 = λ b. same_pair p q ≡ b → (b || list_any (λ r. same_pair r q) ps) ≡ true → ((c p && b) || list_any (λ r. c r && same_pair r q) ps) ≡ true in
-    let at : F (same_pair p q) = elim (same_pair p q) as F [
-      | true ↦ λ s t. let here : c p ≡ true = subst (λ (x : Pair). c x ≡ true) (sym (same_pair-true p q s)) k in rw here
-      | false ↦ λ s t. or_right (c p && false) (list_any (λ r. c r && same_pair r q) ps) (to_some c ps q t k)
-    ] in
-    at refl e where
-      or_right : (a b : Bool) → b ≡ true → (a || b) ≡ true
-      or_right true b h = refl
-      or_right false b h = h
-
--- the rows after a commit are those that the history gives
-board_commit : (g : Ground) (edits : List Edit) (cs : List (List Edit)) (us : List Given) → AllModels g cs → Each (IsSound g cs) us → AreApart (pairs g.specs (apply g.schema (model_after g cs) edits)) →
-    carried (last_of g (edits ∷ cs)) (length cs) (map empty_row (pairs g.specs (apply g.schema (model_after g cs) edits))) (board_by g cs us) ≡ board_by g (edits ∷ cs) us
+-- the rows after the changed keys were marked have what the next history keeps
+marked_rows : (g : Ground) (edits : List Edit) (cs : List (List Edit)) (us held : List Given) (keys : List Key) → Each (IsSound g cs) us → IsChange g edits cs keys → marked keys (board_by g cs us held) ≡ map (row_by g (edits ∷ cs) us held) (pairs g.specs (model_after g cs))
 unfolding board_by
-board_commit g edits cs us models sound apart =
-    let m : List Instance = model_after g cs in
-    let n : List Instance = apply g.schema (model_after g cs) edits in
-    let c : Pair → Bool = carries g edits cs us in
-    let in_pairs : (q : Pair) → carries g edits cs us q ≡ true → list_any (λ r. same_pair r q) (pairs g.specs m) ≡ true = λ q e. settled_pair g cs us q models sound (and_parts (settled_by g cs us q) (keeps_all g.schema m n (need g.schema g.specs q m)) e).0 in
-    let test : (q : Pair) → any_over (carries g edits cs us) (pairs g.specs m) q false ≡ settled_by g (edits ∷ cs) us q = λ q.
-    over_any (carries g edits cs us) (pairs g.specs m) q false ∙ or_false (list_any (λ p. carries g edits cs us p && same_pair p q) (pairs g.specs m))
-    ∙ bool_same (list_any (λ p. carries g edits cs us p && same_pair p q) (pairs g.specs m)) (carries g edits cs us q) (some_to (carries g edits cs us) (pairs g.specs m) q) (λ e. to_some (carries g edits cs us) (pairs g.specs m) q (in_pairs q e) e)
-    ∙ sym (settled_commit g edits cs us q sound) in
-    carry_all g edits cs us (λ q. false) (pairs g.specs m) (pairs g.specs n) apart
-    ∙ map_agree _ (row_by g (edits ∷ cs) us) (λ q i. record { pair = q; kept = if test q i then Some (found g.schema g.specs n q) else None }) (pairs g.specs n)
+marked_rows g edits cs us held keys sound c =
+    map_map (unsettled_by keys) (row_by g cs us held) (row_by g (edits ∷ cs) us held)
+    (λ p. marked_if g edits cs held keys p c (settled_by g cs us p)
+    ∙ ap (λ (b : Bool). record { pair = p; kept = if b then Some (found g.schema g.specs (apply g.schema (model_after g cs) edits) p) else None; out = is_of held p }) (sym (settled_commit g edits cs us p sound)))
+    (pairs g.specs (model_after g cs))
+
+-- Pairs that go and come.
+
+abbrev kept_next : Ground → List Edit → List (List Edit) → List Given → Pair → Option Kept
+kept_next g edits cs us p = if settled_by g (edits ∷ cs) us p then Some (found g.schema g.specs (apply g.schema (model_after g cs) edits) p) else None
+
+abbrev still_in : List Given → List Pair → Pair → Bool
+still_in held come p = is_of held p && not (is_among come p)
+
+not_both : (b : Bool) → b ≡ true → b ≡ false → ⊥
+not_both b e f = true≢false (sym e ∙ f)
+
+-- a pair that comes has a new row
+new_there : (g : Ground) (edits : List Edit) (cs : List (List Edit)) (us held : List Given) (come : List Pair) → AllModels g cs → Each (IsSound g cs) us → (p : Pair) → is_among come p ≡ true → is_among (pairs g.specs (model_after g cs)) p ≡ false → rowed (kept_next g edits cs us) (still_in held come) p ≡ new_row p
+new_there g edits cs us held come models sound p e none =
+    let F : Bool → Type 0 = λ b. settled_by g cs us p ≡ b → (b && keeps g edits cs p) ≡ false in
+    let unsettled : F (settled_by g cs us p) = elim (settled_by g cs us p) as F [
+      | true ↦ λ s. absurd (not_both (is_among (pairs g.specs (model_after g cs)) p) (settled_pair g cs us p models sound s) none)
+      | false ↦ λ s. refl
+    ] in
+    let kept : settled_by g (edits ∷ cs) us p ≡ false = settled_commit g edits cs us p sound ∙ unsettled refl in
+    let free : still_in held come p ≡ false = ap (λ (b : Bool). is_of held p && not b) e ∙ and_false (is_of held p) in
+    λ i. record { pair = p; kept = if kept i then Some (found g.schema g.specs (apply g.schema (model_after g cs) edits) p) else None; out = free i }
+
+-- a pair that was there doesn't come
+old_there : (g : Ground) (edits : List Edit) (cs : List (List Edit)) (us held : List Given) (come : List Pair) (p : Pair) → is_among come p ≡ false → row_by g (edits ∷ cs) us held p ≡ rowed (kept_next g edits cs us) (still_in held come) p
+old_there g edits cs us held come p e =
+    let F : Bool → Type 0 = λ b. is_of held p ≡ (is_of held p && not b) in
+    let at : is_of held p ≡ still_in held come p = subst F (sym e) (and_true (is_of held p)) in
+    λ i. record { pair = p; kept = kept_next g edits cs us p; out = at i } where
+      and_true : (b : Bool) → b ≡ (b && true)
+      and_true true = refl
+      and_true false = refl
+
+replaced_rows : (g : Ground) (edits : List Edit) (cs : List (List Edit)) (us held : List Given) (keys : List Key) → AllModels g (edits ∷ cs) → NumberedFrom 1 g.specs → Each (IsSound g cs) us → IsChange g edits cs keys →
+    replaced (lost g.specs (model_after g cs) (apply g.schema (model_after g cs) edits) keys) (lost g.specs (apply g.schema (model_after g cs) edits) (model_after g cs) keys) (map (row_by g (edits ∷ cs) us held) (pairs g.specs (model_after g cs)))
+    ≡ map (rowed (kept_next g edits cs us) (still_in held (lost g.specs (apply g.schema (model_after g cs) edits) (model_after g cs) keys))) (pairs g.specs (apply g.schema (model_after g cs) edits))
+replaced_rows g edits cs us held keys models k sound c =
+    replaced_by (lost g.specs (model_after g cs) (apply g.schema (model_after g cs) edits) keys) (lost g.specs (apply g.schema (model_after g cs) edits) (model_after g cs) keys)
+    (comes_new g.specs (model_after g cs) (apply g.schema (model_after g cs) edits) keys k (model_now g cs models.1))
+    (exchanged g.schema g.specs (model_after g cs) (apply g.schema (model_after g cs) edits) keys k (model_now g cs models.1) models.0 c) where
+      replaced_by : (gone come : List Pair) → ((p : Pair) → is_among come p ≡ true → is_among (pairs g.specs (model_after g cs)) p ≡ false) →
+          ((p : Pair) → ((is_among (pairs g.specs (model_after g cs)) p && not (is_among gone p)) || is_among come p) ≡ is_among (pairs g.specs (apply g.schema (model_after g cs) edits)) p) →
+          replaced gone come (map (row_by g (edits ∷ cs) us held) (pairs g.specs (model_after g cs))) ≡ map (rowed (kept_next g edits cs us) (still_in held come)) (pairs g.specs (apply g.schema (model_after g cs) edits))
+      replaced_by gone come fresh whole =
+          let absent : Each (λ (p : Pair). is_among come p ≡ false) (pairs g.specs (model_after g cs)) = each_among _ (pairs g.specs (model_after g cs)) (λ p e. absent_if p (is_among come p) refl e) in
+          let kept : without_pairs gone (map (row_by g (edits ∷ cs) us held) (pairs g.specs (model_after g cs))) ≡ map (row_by g (edits ∷ cs) us held) (filter (λ (p : Pair). not (is_among gone p)) (pairs g.specs (model_after g cs))) = filter_rowed (λ p. not (is_among gone p)) (kept_next g edits cs us) (is_of held) (pairs g.specs (model_after g cs)) in
+          let agree : map (row_by g (edits ∷ cs) us held) (filter (λ (p : Pair). not (is_among gone p)) (pairs g.specs (model_after g cs))) ≡ map (rowed (kept_next g edits cs us) (still_in held come)) (filter (λ (p : Pair). not (is_among gone p)) (pairs g.specs (model_after g cs))) = agree_rowed (kept_next g edits cs us) (kept_next g edits cs us) (is_of held) (still_in held come) (filter (λ (p : Pair). not (is_among gone p)) (pairs g.specs (model_after g cs))) (each_old (filter (λ (p : Pair). not (is_among gone p)) (pairs g.specs (model_after g cs))) (Each-filter _ (λ (p : Pair). not (is_among gone p)) (pairs g.specs (model_after g cs)) absent)) in
+          let new : Each (λ (p : Pair). rowed (kept_next g edits cs us) (still_in held come) p ≡ new_row p) come = each_among _ come (λ p e. new_there g edits cs us held come models.1 sound p e (fresh p e)) in
+          let same : fold inserted (filter (λ (p : Pair). not (is_among gone p)) (pairs g.specs (model_after g cs))) come ≡ pairs g.specs (apply g.schema (model_after g cs) edits) =
+          same_list (fold inserted (filter (λ (p : Pair). not (is_among gone p)) (pairs g.specs (model_after g cs))) come) (pairs g.specs (apply g.schema (model_after g cs) edits))
+          (order_all come (filter (λ (p : Pair). not (is_among gone p)) (pairs g.specs (model_after g cs))) (left_in_order gone (pairs g.specs (model_after g cs)) (in_order (pairs g.specs (model_after g cs)) (pairs_ascend g.specs (model_after g cs) k (model_now g cs models.1)))))
+          (in_order (pairs g.specs (apply g.schema (model_after g cs) edits)) (pairs_ascend g.specs (apply g.schema (model_after g cs) edits) k models.0))
+          (λ p. among_all come (filter (λ (q : Pair). not (is_among gone q)) (pairs g.specs (model_after g cs))) p ∙ ap (λ (b : Bool). b || is_among come p) (among_left gone (pairs g.specs (model_after g cs)) p) ∙ whole p) in
+          ap (λ (rs : List Row). fold with_pair rs come) (kept ∙ agree)
+          ∙ all_rowed (kept_next g edits cs us) (still_in held come) come (filter (λ (p : Pair). not (is_among gone p)) (pairs g.specs (model_after g cs))) new
+          ∙ ap (λ (ps : List Pair). map (rowed (kept_next g edits cs us) (still_in held come)) ps) same where
+            absent_if : (p : Pair) (b : Bool) → is_among come p ≡ b → is_among (pairs g.specs (model_after g cs)) p ≡ true → is_among come p ≡ false
+            absent_if p true f e = absurd (not_both (is_among (pairs g.specs (model_after g cs)) p) e (fresh p f))
+            absent_if p false f e = f
+
+            each_old : (ps : List Pair) → Each (λ (p : Pair). is_among come p ≡ false) ps → Each (λ (p : Pair). row_by g (edits ∷ cs) us held p ≡ rowed (kept_next g edits cs us) (still_in held come) p) ps
+            each_old [] e = tt
+            each_old (p ∷ ps) e = (old_there g edits cs us held come p e.0, each_old ps e.1)
+
+out_again : (a b : Bool) → ((a && not b) || a) ≡ a
+out_again true b = or_true (not b)
+out_again false b = refl
+
+-- The rows after a commit are those that the history gives.
+board_commit : (g : Ground) (edits : List Edit) (cs : List (List Edit)) (us held : List Given) (keys : List Key) → AllModels g (edits ∷ cs) → NumberedFrom 1 g.specs → Each (IsSound g cs) us → IsChange g edits cs keys →
+    taken_out held (replaced (lost g.specs (model_after g cs) (apply g.schema (model_after g cs) edits) keys) (lost g.specs (apply g.schema (model_after g cs) edits) (model_after g cs) keys) (marked keys (board_by g cs us held))) ≡ board_by g (edits ∷ cs) us held
+unfolding board_by
+board_commit g edits cs us held keys models k sound c =
+    ap (λ (rs : List Row). taken_out held (replaced (lost g.specs (model_after g cs) (apply g.schema (model_after g cs) edits) keys) (lost g.specs (apply g.schema (model_after g cs) edits) (model_after g cs) keys) rs)) (marked_rows g edits cs us held keys sound c)
+    ∙ ap (λ (rs : List Row). taken_out held rs) (replaced_rows g edits cs us held keys models k sound c)
+    ∙ taken_rowed held (kept_next g edits cs us) (still_in held (lost g.specs (apply g.schema (model_after g cs) edits) (model_after g cs) keys)) (pairs g.specs (apply g.schema (model_after g cs) edits)) (apart_pairs 1 g.specs (apply g.schema (model_after g cs) edits) k models.0)
+    ∙ same_rowed (kept_next g edits cs us) (kept_next g edits cs us) (λ q. still_in held (lost g.specs (apply g.schema (model_after g cs) edits) (model_after g cs) keys) q || is_of held q) (is_of held) (pairs g.specs (apply g.schema (model_after g cs) edits)) (λ p. ap (λ (b : Bool). record { pair = p; kept = kept_next g edits cs us p; out = b }) (out_again (is_of held p) (is_among (lost g.specs (apply g.schema (model_after g cs) edits) (model_after g cs) keys) p)))
 
 -- An accepted commit keeps the limit of instances.
 
@@ -230,40 +252,52 @@ few_judged s limits last base n m (e ∷ es) j l =
 one_up : (n : ℕ) → n + 1 ≡ suc n
 one_up n = omega arith
 
+-- the model after an accepted commit is one
+next_model : {g : Ground} {h : List StepRec} {v : SnapshotView} {seen : BoardView} {held : List Given} {log : FinMap nat_cmp ℕ} {number room places base : ℕ} {edits : List Edit} {next : SnapshotView} {keys : List Key} {gone come : List Pair} →
+    IsKept g h v seen held log number room places → IsPlan g.schema g.specs g.limits (last_change g h) base (revision h) (current g h) edits next keys gone come → IsModel (apply g.schema (current g h) edits)
+next_model {g = g} {h = h} {base = base} {edits = edits} k p = model_applied g.schema g.limits (revision h) (last_change g h) base (current g h) edits p.judged (model_now g (commits h) k.ascending)
+
 -- the core's fields after an accepted commit
-pub kept_commit : {g : Ground} {h : List StepRec} {v : SnapshotView} {rows : List Row} {passed : ℕ} {held : List Given} {log : FinMap nat_cmp ℕ} {number room : ℕ} (actor base : ℕ) (edits : List Edit) (next : SnapshotView) (keys : List Key) (news : List Row) (log' : FinMap nat_cmp ℕ) →
-    IsKept g h v rows passed held log number room → IsPlan g.schema g.specs g.limits (last_change g h) base (revision h) (current g h) edits next keys news → base ≤ revision h → length h + length held + 1 ≤ room → length h + length held + 1 ≤ g.limits.steps →
+pub kept_commit : {g : Ground} {h : List StepRec} {v : SnapshotView} {seen : BoardView} {held : List Given} {log : FinMap nat_cmp ℕ} {number room places : ℕ} (actor base : ℕ) (edits : List Edit) (next : SnapshotView) (keys : List Key) (gone come : List Pair) (log' : FinMap nat_cmp ℕ) →
+    IsKept g h v seen held log number room places → IsPlan g.schema g.specs g.limits (last_change g h) base (revision h) (current g h) edits next keys gone come → base ≤ revision h → length h + length held + 1 ≤ room → length h + length held + 1 ≤ g.limits.steps →
     ((k : Key) → last_in log' k ≡ (if list_any (λ j. key_eq j k) keys then revision h + 1 else last_change g h k)) →
-    IsKept g (record { actor = actor; call = Commit base edits; reply = Accepted next.revision } ∷ h) next (carried (last_in log') v.revision news rows) 0 held log' number room
-kept_commit {g = g} {h = h} {v = v} {rows = rows} {held = held} {log = log} actor base edits next keys news log' k p b fits few noted =
-    let m : List Instance = current g h in
+    IsKept g (record { actor = actor; call = Commit base edits; reply = Accepted next.revision } ∷ h) next (having (taken_out held (replaced gone come (marked keys seen.rows))) seen) held log' number room places
+kept_commit {g = g} {h = h} {v = v} {seen = seen} {held = held} {log = log} actor base edits next keys gone come log' k p b fits few noted =
     let rev : next.revision ≡ revision h + 1 = p.next_is.revision in
-    let since : v.revision ≡ revision h = k.now.revision in
-    let ascends = model_applied g.schema g.limits (revision h) (last_change g h) base (current g h) edits p.judged (model_now g (commits h) k.ascending) in
+    let ascends : IsModel (apply g.schema (current g h) edits) = next_model k p in
     let accepted = edits_accepted g.schema g.limits (revision h) (last_change g h) base (current g h) edits p.judged in
     let change : (key : Key) → last_in log' key ≡ last_of g (edits ∷ commits h) key = λ key. rw (noted key, p.keys_are key) refl in
-    let lasts : last_in log' ≡ last_of g (edits ∷ commits h) = λ i key. change key i in
     record {
       legal = ((b, rw (rev, p.judged)), k.legal);
       numbered = k.numbered;
       ascending = (ascends, k.ascending);
       size = few_judged g.schema g.limits (last_change g h) base 1 (current g h) edits accepted.1 k.size;
       now = rw (← one_up (revision h)) p.next_is;
-      board =
-          rw (lasts, since, p.rows_are, k.board)
-          (board_commit g edits (commits h) (used h) k.ascending (sound_used g h k.legal) (apart_pairs 1 g.specs (apply g.schema (current g h) edits) k.numbered ascends));
-      within = omega arith;
-      none_before = refl;
+      headings = k.headings;
+      board = rw (k.claims, k.board, p.gone_are, p.come_are) (board_commit g edits (commits h) (used h) (out h) keys (ascends, k.ascending) k.numbered (sound_used g h k.legal) p.keys_are);
       claims = k.claims;
       changes = change;
       number_is = k.number_is;
       numbers = omega (arith, k.numbers);
       fits = omega (arith, fits);
+      memory = k.memory;
       few = omega (arith, few);
     }
 
--- the rows that a plan makes ascend
-pub plan_ascends : {g : Ground} {h : List StepRec} {v : SnapshotView} {rows : List Row} {passed : ℕ} {held : List Given} {log : FinMap nat_cmp ℕ} {number room base : ℕ} {edits : List Edit} {next : SnapshotView} {keys : List Key} {news : List Row} →
-    IsKept g h v rows passed held log number room → IsPlan g.schema g.specs g.limits (last_change g h) base (revision h) (current g h) edits next keys news → AreAscending news
-plan_ascends {g = g} {h = h} {base = base} {edits = edits} k p =
-    rw p.rows_are (empty_ascends g.specs (apply g.schema (current g h) edits) k.numbered (model_applied g.schema g.limits (revision h) (last_change g h) base (current g h) edits p.judged (model_now g (commits h) k.ascending)))
+-- the pairs that a plan lets come are new to the rows
+pub plan_new : {g : Ground} {h : List StepRec} {v : SnapshotView} {seen : BoardView} {held : List Given} {log : FinMap nat_cmp ℕ} {number room places base : ℕ} {edits : List Edit} {next : SnapshotView} {keys : List Key} {gone come : List Pair} →
+    IsKept g h v seen held log number room places → IsPlan g.schema g.specs g.limits (last_change g h) base (revision h) (current g h) edits next keys gone come → AreNew (pairs_of (marked keys seen.rows)) come
+plan_new {g = g} {h = h} {held = held} {edits = edits} {keys = keys} k p =
+    let rows : marked keys (board_by g (commits h) (used h) (out h)) ≡ map (row_by g (edits ∷ commits h) (used h) (out h)) (pairs_now g h) = marked_rows g edits (commits h) (used h) (out h) keys (sound_used g h k.legal) p.keys_are in
+    let pairs_are : pairs_of (map (row_by g (edits ∷ commits h) (used h) (out h)) (pairs_now g h)) ≡ pairs_now g h = pairs_rowed (kept_next g edits (commits h) (used h)) (is_of (out h)) (pairs_now g h) in
+    rw (k.board, rows, pairs_are, p.come_are) (come_new g.specs (current g h) (apply g.schema (current g h) edits) keys k.numbered (model_now g (commits h) k.ascending) p.keys_ascend)
+
+-- there are as many rows as pairs
+pub rows_counted : {g : Ground} {h : List StepRec} {v : SnapshotView} {seen : BoardView} {held : List Given} {log : FinMap nat_cmp ℕ} {number room places : ℕ} → IsKept g h v seen held log number room places → length seen.rows ≡ length (pairs_now g h)
+rows_counted {g = g} {h = h} k = rw k.board (pairs_on_board g (commits h) (used h) (out h))
+
+length-marked : (keys : List Key) (rows : List Row) → length (marked keys rows) ≡ length rows
+length-marked keys rows = length-map (unsettled_by keys) rows
+
+pub marked_counted : {g : Ground} {h : List StepRec} {v : SnapshotView} {seen : BoardView} {held : List Given} {log : FinMap nat_cmp ℕ} {number room places : ℕ} (keys : List Key) → IsKept g h v seen held log number room places → length (marked keys seen.rows) ≡ length (pairs_now g h)
+marked_counted {seen = seen} keys k = length-marked keys seen.rows ∙ rows_counted k

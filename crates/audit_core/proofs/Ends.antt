@@ -1,8 +1,7 @@
--- What the end of a claim leaves: the claims that are out, and the rows that are out of question for a claim.
-use Rattle.std.proofs.Common.{◌≡◌, ℕ, suc, zero, ◌+◌, ◌<◌, ◌≤◌, Bool, true, false, not, cond, ◌&&◌, ◌||◌, ◌==◌, if◌then◌else◌, List, [], ◌∷◌, ◌++◌, length, take, filter, is_none, Option, Some, None, IsSome, arith, refl, ap, sym, ◌∙◌}
+-- What the end of a claim leaves of those that are out.
+use Rattle.std.proofs.Common.{◌≡◌, ℕ, ◌+◌, ◌<◌, ◌≤◌, Bool, true, false, not, cond, ◌&&◌, ◌||◌, ◌==◌, if◌then◌else◌, List, [], ◌∷◌, ◌++◌, length, filter, find, Option, Some, None, IsSome, arith, refl, ap, sym, subst, ◌∙◌}
 use Rattle.std.specs.List.{list_any}
-use Rattle.std.specs.Option.{option_map}
-use Rattle.std.proofs.lemmas.Bool.{false≢true, true≢false, or_parts, eqb-true}
+use Rattle.std.proofs.lemmas.Bool.{false≢true, true≢false, and_parts, or_parts, eqb-true}
 use Rattle.audit_model.specs.declared.verdict.Pair.{Pair}
 use Rattle.audit_model.specs.declared.step.Given.{Given}
 use Rattle.audit_model.specs.declared.step.StepRec.{StepRec}
@@ -13,11 +12,12 @@ use Rattle.audit_model.specs.declared.step.Reply.TheVariants.{Began, Accepted, R
 use Rattle.audit_model.specs.Pairs.{same_pair}
 use Rattle.audit_model.specs.History.{Ground, claim_numbered, without_claim, out, out_after, given, revision}
 use Rattle.audit_model.specs.Machine.{Legal, Answers, least_claimable}
-use Rattle.audit_model.proofs.Tests.{Each, Each-filter, Each-weaker, filter-shorter}
+use Rattle.audit_model.specs.History.{is_out, settled}
+use Rattle.audit_model.specs.Machine.{claimed, pairs_now}
+use Rattle.audit_model.proofs.Tests.{Each, Each-filter, Each-found, Each-push, Each-weaker, filter-shorter}
 use Rattle.audit_model.proofs.Numbers.{out_numbers, claim_number}
-use Rattle.audit_core.specs.declared.board.Row.{Row}
-use Rattle.audit_core.specs.declared.board.Kept.{Kept}
-use Rattle.audit_core.specs.Rows.{is_claimable, row_place, settled_rows, back_to}
+use Rattle.audit_core.specs.Rows.{is_of}
+use Rattle.audit_core.proofs.Order.{same_swap}
 
 pub removed_shorter : (n : ℕ) (cs : List Given) → IsSome (claim_numbered n cs) → length (without_claim n cs) + 1 ≤ length cs
 removed_shorter n cs s =
@@ -86,10 +86,10 @@ of_pair n (d ∷ ds) c r e =
     at refl e
 
 -- a pair that isn't the ended claim's is out afterwards where it was before
-still_out : (n : ℕ) (p q : Pair) (cs : List Given) → OfPair n p cs → same_pair p q ≡ false → list_any (λ c. same_pair c.pair q) (without_claim n cs) ≡ list_any (λ c. same_pair c.pair q) cs
+pub still_out : (n : ℕ) (p q : Pair) (cs : List Given) → OfPair n p cs → same_pair p q ≡ false → is_of (without_claim n cs) q ≡ is_of cs q
 still_out n p q [] o d = refl
 still_out n p q (c ∷ cs) o d =
-    let rest : list_any (λ x. same_pair x.pair q) (without_claim n cs) ≡ list_any (λ x. same_pair x.pair q) cs = still_out n p q cs o.1 d in
+    let rest : is_of (without_claim n cs) q ≡ is_of cs q = still_out n p q cs o.1 d in
     let F : Bool → Type 0 = λ b. (c.number == n) ≡ b → list_any (λ x. same_pair x.pair q) (cond (not b) (c ∷ without_claim n cs) (without_claim n cs)) ≡ (same_pair c.pair q || list_any (λ x. same_pair x.pair q) cs) in
     let at : F (c.number == n) = elim (c.number == n) as F [
       | true ↦ λ k. let other : same_pair c.pair q ≡ false = rw (o.0 k) d in rw other rest
@@ -97,67 +97,83 @@ still_out n p q (c ∷ cs) o d =
     ] in
     at refl
 
--- the place, if there is one, isn't before j
-abbrev pub IsBefore : ℕ → Option ℕ → Type 0
-IsBefore j None = Unit {0}
-IsBefore j (Some i) = j ≤ i
+-- No two claims that are out are of one pair.
 
-before_less : (j : ℕ) (o : Option ℕ) → IsBefore (suc j) (option_map (λ i. suc i) o) → IsBefore j o
-before_less j None b = tt
-before_less j (Some i) b = omega (arith, b)
+abbrev Apart : Given → Given → Type 0
+Apart c d = same_pair c.pair d.pair ≡ false
 
-pub back_before : (passed : ℕ) (o : Option ℕ) → IsBefore (back_to passed o) o × (back_to passed o ≤ passed)
-back_before passed None = (tt, omega arith)
-back_before passed (Some i) = (omega arith, omega arith)
+abbrev pub AllApart : List Given → Type 0
+AllApart [] = Unit {0}
+AllApart (c ∷ cs) = Each (λ (d : Given). same_pair c.pair d.pair ≡ false) cs × AllApart cs
 
--- before its pair's row the end of a claim changes nothing
-pub none_front : (n : ℕ) (p : Pair) (held : List Given) (rows : List Row) (passed j : ℕ) → OfPair n p held → j ≤ passed → IsBefore j (row_place p rows) → list_any (is_claimable held) (take passed rows) ≡ false → list_any (is_claimable (without_claim n held)) (take j rows) ≡ false
-none_front n p held rows passed zero o l b h = refl
-none_front n p held [] passed (suc j) o l b h = refl
-none_front n p held (r ∷ rs) zero (suc j) o l b h = absurd (omega (arith, l))
-none_front n p held (r ∷ rs) (suc passed) (suc j) o l b h =
-    let parts : (is_claimable held r ≡ false) × (list_any (is_claimable held) (take passed rs) ≡ false) = or_parts (is_claimable held r) (list_any (is_claimable held) (take passed rs)) h in
-    let F : Bool → Type 0 = λ d. same_pair p r.pair ≡ d → IsBefore (suc j) (if d then Some 0 else option_map (λ i. suc i) (row_place p rs)) → list_any (is_claimable (without_claim n held)) (take (suc j) (r ∷ rs)) ≡ false in
-    let at : F (same_pair p r.pair) = elim (same_pair p r.pair) as F [
-      | true ↦ λ d k. absurd (omega (arith, k))
-      | false ↦ λ d k.
-          let here : is_claimable (without_claim n held) r ≡ false = ap (λ a. is_none r.kept && not a) (still_out n p r.pair held o d) ∙ parts.0 in
-          rw here (none_front n p held rs passed j o (omega (arith, l)) (before_less j (row_place p rs) k) parts.1)
+apart_filter : (t : Given → Bool) (cs : List Given) → AllApart cs → AllApart (filter t cs)
+apart_filter t [] a = tt
+apart_filter t (c ∷ cs) a =
+    let rest : AllApart (filter t cs) = apart_filter t cs a.1 in
+    elim (t c) as (λ b. AllApart (cond b (c ∷ filter t cs) (filter t cs))) [ true ↦ (Each-filter (Apart c) t cs a.0, rest) | false ↦ rest ]
+
+apart_push : (cs : List Given) (c : Given) → is_of cs c.pair ≡ false → AllApart cs → AllApart (cs ++ c ∷ [])
+apart_push [] c e a = (tt, tt)
+apart_push (d ∷ ds) c e a =
+    let neither : (same_pair d.pair c.pair ≡ false) × (is_of ds c.pair ≡ false) = or_parts (same_pair d.pair c.pair) (is_of ds c.pair) e in
+    (Each-push (Apart d) ds c a.0 neither.0, apart_push ds c neither.1 a.1)
+
+not_true : (b : Bool) → not b ≡ true → b ≡ false
+not_true true e = absurd (false≢true e)
+not_true false e = refl
+
+-- what a search finds passes its test
+passes_found : {X : Type 0} (t : X → Bool) (xs : List X) (x : X) → find t xs ≡ Some x → t x ≡ true
+passes_found t [] x e = absurd (cc)
+passes_found {X} t (y ∷ ys) x e =
+    let F : Bool → Type 0 = λ b. t y ≡ b → cond b (Some y) (find t ys) ≡ Some x → t x ≡ true in
+    let at : F (t y) = elim (t y) as F [ true ↦ λ k f. let same : y ≡ x = cc in subst (λ (z : X). t z ≡ true) same k | false ↦ λ k f. passes_found t ys x f ] in
+    at refl e
+
+-- a claim is given of a pair that isn't out
+given_apart : (g : Ground) (h : List StepRec) (o : Option Pair) (k v : ℕ) (p : Pair) → least_claimable g h ≡ o → Claimed k p v ≡ claimed o (given h + 1) (revision h) → is_of (out h) p ≡ false
+given_apart g h None k v p is e = absurd (cc)
+given_apart g h (Some q) k v p is e =
+    let same : p ≡ q = cc in
+    let free : (not (settled g h q) && not (is_out h q)) ≡ true = passes_found (λ x. not (settled g h x) && not (is_out h x)) (pairs_now g h) q is in
+    subst (λ (x : Pair). is_of (out h) x ≡ false) (sym same) (not_true (is_out h q) (and_parts (not (settled g h q)) (not (is_out h q)) free).1)
+
+apart_after : (g : Ground) (h : List StepRec) (actor : ℕ) (call : Call) (reply : Reply) → Answers g h actor call reply → AllApart (out h) → AllApart (out_after actor call reply (out h))
+apart_after g h actor Begin reply a r = r
+apart_after g h actor (Commit base edits) reply a r = r
+apart_after g h actor (Deliver k) reply a r = apart_filter _ (out h) r
+apart_after g h actor (GiveBack k) reply a r = apart_filter _ (out h) r
+apart_after g h actor Publish reply a r = r
+apart_after g h actor Claim (Claimed k p v) a r = apart_push (out h) (record { number = k; actor = actor; pair = p; revision = v }) (given_apart g h (least_claimable g h) k v p refl a) r
+apart_after g h actor Claim (Began v) a r = r
+apart_after g h actor Claim (Accepted v) a r = r
+apart_after g h actor Claim (Refused f) a r = r
+apart_after g h actor Claim Idle a r = r
+apart_after g h actor Claim Used a r = r
+apart_after g h actor Claim (Stale k v) a r = r
+apart_after g h actor Claim Back a r = r
+apart_after g h actor Claim (Pending p) a r = r
+apart_after g h actor Claim (Report v) a r = r
+
+pub apart_out : (g : Ground) (h : List StepRec) → Legal g h → AllApart (out h)
+apart_out g [] l = tt
+apart_out g (e ∷ h) l = apart_after g h e.actor e.call e.reply l.0 (apart_out g h l.1)
+
+none_of : (p : Pair) (cs : List Given) → Each (λ (d : Given). same_pair p d.pair ≡ false) cs → is_of cs p ≡ false
+none_of p [] e = refl
+none_of p (c ∷ cs) e = (λ i. (same_swap c.pair p ∙ e.0) i || none_of p cs e.1 i)
+
+-- where a claim ends, its pair isn't out any more
+pub none_out : (n : ℕ) (cs : List Given) (c : Given) → AllApart cs → claim_numbered n cs ≡ Some c → is_of (without_claim n cs) c.pair ≡ false
+none_out n [] c a e = absurd (cc)
+none_out n (d ∷ ds) c a e =
+    let F : Bool → Type 0 = λ b. (d.number == n) ≡ b → cond b (Some d) (claim_numbered n ds) ≡ Some c → is_of (cond (not b) (d ∷ without_claim n ds) (without_claim n ds)) c.pair ≡ false in
+    let at : F (d.number == n) = elim (d.number == n) as F [
+      | true ↦ λ k f.
+          let same : d ≡ c = cc in
+          subst (λ (x : Given). is_of (without_claim n ds) x.pair ≡ false) same (none_of d.pair (without_claim n ds) (Each-filter (Apart d) (λ (x : Given). not (x.number == n)) ds a.0))
+      | false ↦ λ k f.
+          let here : same_pair d.pair c.pair ≡ false = Each-found (Apart d) (λ (x : Given). x.number == n) ds c a.0 f in
+          λ i. here i || none_out n ds c a.1 f i
     ] in
-    at refl b
-
--- keeping a finding changes no row before its pair's
-pub front_settled : (p : Pair) (k : Kept) (rows : List Row) (j : ℕ) → IsBefore j (row_place p rows) → take j (settled_rows p k rows) ≡ take j rows
-front_settled p k rows zero b = refl
-front_settled p k [] (suc j) b = refl
-front_settled p k (r ∷ rs) (suc j) b =
-    let F : Bool → Type 0 = λ d. IsBefore (suc j) (if d then Some 0 else option_map (λ i. suc i) (row_place p rs)) → take (suc j) (if d then record { pair = r.pair; kept = Some k } ∷ rs else r ∷ settled_rows p k rs) ≡ take (suc j) (r ∷ rs) in
-    let at : F (same_pair p r.pair) = elim (same_pair p r.pair) as F [
-      | true ↦ λ c. absurd (omega (arith, c))
-      | false ↦ λ c. ap (λ xs. r ∷ xs) (front_settled p k rs j (before_less j (row_place p rs) c))
-    ] in
-    at b
-
-pub length-settled : (p : Pair) (k : Kept) (rows : List Row) → length (settled_rows p k rows) ≡ length rows
-length-settled p k [] = refl
-length-settled p k (r ∷ rs) =
-    elim (same_pair p r.pair) as (λ b. length (if b then record { pair = r.pair; kept = Some k } ∷ rs else r ∷ settled_rows p k rs) ≡ length (r ∷ rs)) [ true ↦ refl | false ↦ ap suc (length-settled p k rs) ]
-
--- one more claim leaves none claimable that was not
-still_none : (held : List Given) (c : Given) (r : Row) → is_claimable held r ≡ false → is_claimable (held ++ c ∷ []) r ≡ false
-still_none held c r e =
-    let F : Bool → Type 0 = λ b. (b && not (list_any (λ x. same_pair x.pair r.pair) held)) ≡ false → (b && not (list_any (λ x. same_pair x.pair r.pair) (held ++ c ∷ []))) ≡ false in
-    let at : F (is_none r.kept) = elim (is_none r.kept) as F [ true ↦ λ k. any_grows held k | false ↦ λ k. refl ] in
-    at e where
-      any_grows : (xs : List Given) → not (list_any (λ x. same_pair x.pair r.pair) xs) ≡ false → not (list_any (λ x. same_pair x.pair r.pair) (xs ++ c ∷ [])) ≡ false
-      any_grows [] k = absurd (true≢false k)
-      any_grows (x ∷ xs) k =
-          let G : Bool → Type 0 = λ b. not (b || list_any (λ y. same_pair y.pair r.pair) xs) ≡ false → not (b || list_any (λ y. same_pair y.pair r.pair) (xs ++ c ∷ [])) ≡ false in
-          let go : G (same_pair x.pair r.pair) = elim (same_pair x.pair r.pair) as G [ true ↦ λ t. refl | false ↦ λ t. any_grows xs t ] in
-          go k
-
-pub none_given : (held : List Given) (c : Given) (rows : List Row) → list_any (is_claimable held) rows ≡ false → list_any (is_claimable (held ++ c ∷ [])) rows ≡ false
-none_given held c [] h = refl
-none_given held c (r ∷ rs) h =
-    let parts : (is_claimable held r ≡ false) × (list_any (is_claimable held) rs ≡ false) = or_parts (is_claimable held r) (list_any (is_claimable held) rs) h in
-    rw (still_none held c r parts.0) (none_given held c rs parts.1)
+    at refl e

@@ -1,44 +1,69 @@
--- Rows in which nothing is kept, and the fields of a core without entries.
-use Rattle.std.proofs.Common.{◌≡◌, ℕ, suc, ◌+◌, ◌<◌, ◌≤◌, Bool, true, false, cond, if◌then◌else◌, nat_lt, List, [], ◌∷◌, ◌++◌, map, filter, length, take, get_or, refl, arith, ap, sym, ◌∙◌}
-use Rattle.std.proofs.lemmas.List.{take_more, map-append}
+-- Lists of pairs as they are made, and the fields of a core without entries.
+use Rattle.std.proofs.Common.{◌≡◌, ℕ, suc, ◌+◌, ◌<◌, ◌≤◌, Bool, true, false, not, ◌&&◌, cond, if◌then◌else◌, nat_lt, List, [], ◌∷◌, ◌++◌, map, filter, flat_map, length, take, get_or, Option, refl, arith, ap, sym, ◌∙◌}
+use Rattle.std.proofs.lemmas.List.{append-nil, take_more, map-append}
 use Rattle.std.proofs.lemmas.List.Elements.{filter-append}
+use Rattle.std.proofs.lemmas.Grind.{flat_map-append}
+use Rattle.std.specs.FinMap.{FinMap}
+use Rattle.std.specs.Ordering.{nat_cmp}
 use Rattle.ifc_base.specs.declared.value.Instance.{Instance}
+use Rattle.ifc_base.specs.declared.key.Key.{Key}
 use Rattle.audit_model.specs.declared.specification.Specification.{Specification}
 use Rattle.audit_model.specs.declared.verdict.Pair.{Pair}
 use Rattle.audit_model.specs.Models.{IsModel, model_of_file, with_instance}
 use Rattle.audit_model.specs.Pairs.{pairs, pairs_of, may_apply, NumberedFrom}
 use Rattle.audit_model.specs.History.{Ground}
-use Rattle.audit_core.specs.declared.board.Row.{Row}
-use Rattle.audit_core.specs.Rows.{board_by, empty_row}
-use Rattle.audit_core.specs.Kept.{IsKept}
-use Rattle.std.specs.FinMap.{FinMap}
-use Rattle.std.specs.Ordering.{nat_cmp}
-use Rattle.ifc_base.specs.declared.key.Key.{Key}
 use Rattle.inverse_index.specs.Log.{last_in}
 use Rattle.model_view.specs.Views.{SnapshotView, IsSnapshotOf}
+use Rattle.dirty_board.specs.declared.rows.Row.{Row}
+use Rattle.dirty_board.specs.Rows.{new_row}
+use Rattle.dirty_board.specs.Tallying.{heading_of}
+use Rattle.audit_core.specs.Rows.{board_by, lost, lost_at, lost_by, makes_at}
+use Rattle.audit_core.specs.Kept.{IsKept}
 
--- the rows of a specification that is for the model
-abbrev pub pair_rows : Specification → List Instance → List Row
-pair_rows q m = map empty_row (map {B = Pair} (λ x. record { spec = q.number; elem = x.id }) (filter (λ x. may_apply q x.entity) m))
+-- the pairs of a specification that is for the model
+abbrev pub pair_list : Specification → List Instance → List Pair
+pair_list q m = map {B = Pair} (λ x. record { spec = q.number; elem = x.id }) (filter (λ x. may_apply q x.entity) m)
 
 -- one more instance
-one_more : (b : Bool) (q : Specification) (x : Instance) → map empty_row (map {B = Pair} (λ (y : Instance). record { spec = q.number; elem = y.id }) (cond b (x ∷ []) [])) ≡ (if b then empty_row (record { spec = q.number; elem = x.id }) ∷ [] else [])
+one_more : (b : Bool) (q : Specification) (x : Instance) → map {B = Pair} (λ (y : Instance). record { spec = q.number; elem = y.id }) (cond b (x ∷ []) []) ≡ (if b then record { spec = q.number; elem = x.id } ∷ [] else [])
 one_more true q x = refl
 one_more false q x = refl
 
 -- a list with one more instance
-rows_plus : (q : Specification) (m : List Instance) (x : Instance) → pair_rows q (m ++ x ∷ []) ≡ pair_rows q m ++ (if may_apply q x.entity then empty_row (record { spec = q.number; elem = x.id }) ∷ [] else [])
-rows_plus q m x =
-    rw (filter-append (λ (y : Instance). may_apply q y.entity) m (x ∷ []), map-append {B = Pair} (λ (y : Instance). record { spec = q.number; elem = y.id }) (filter (λ (y : Instance). may_apply q y.entity) m) (filter (λ (y : Instance). may_apply q y.entity) (x ∷ [])), map-append empty_row (map {B = Pair} (λ (y : Instance). record { spec = q.number; elem = y.id }) (filter (λ (y : Instance). may_apply q y.entity) m)) (map {B = Pair} (λ (y : Instance). record { spec = q.number; elem = y.id }) (filter (λ (y : Instance). may_apply q y.entity) (x ∷ []))))
-    (ap (λ (rs : List Row). pair_rows q m ++ rs) (one_more (may_apply q x.entity) q x))
+pairs_plus : (q : Specification) (m : List Instance) (x : Instance) → pair_list q (m ++ x ∷ []) ≡ pair_list q m ++ (if may_apply q x.entity then record { spec = q.number; elem = x.id } ∷ [] else [])
+pairs_plus q m x =
+    rw (filter-append (λ (y : Instance). may_apply q y.entity) m (x ∷ []), map-append {B = Pair} (λ (y : Instance). record { spec = q.number; elem = y.id }) (filter (λ (y : Instance). may_apply q y.entity) m) (filter (λ (y : Instance). may_apply q y.entity) (x ∷ [])))
+    (ap (λ (ps : List Pair). pair_list q m ++ ps) (one_more (may_apply q x.entity) q x))
 
 -- the same of a list of which each is seen
-pub rows_next : {X : Type 0} (f : X → Instance) (q : Specification) (xs : List X) (i : ℕ) (x : X) → i < length xs → x ≡ get_or xs i x → pair_rows q (map f (take (i + 1) xs)) ≡ pair_rows q (map f (take i xs)) ++ (if may_apply q (f x).entity then empty_row (record { spec = q.number; elem = (f x).id }) ∷ [] else [])
-rows_next f q xs i x l e =
-    ap (λ zs. pair_rows q (map f zs)) (take_more xs i x l ∙ ap (λ y. take i xs ++ y ∷ []) (sym e)) ∙ ap (pair_rows q) (map-append f (take i xs) (x ∷ [])) ∙ rows_plus q (map f (take i xs)) (f x)
+pub pairs_next : {X : Type 0} (f : X → Instance) (q : Specification) (xs : List X) (i : ℕ) (x : X) → i < length xs → x ≡ get_or xs i x → pair_list q (map f (take (i + 1) xs)) ≡ pair_list q (map f (take i xs)) ++ (if may_apply q (f x).entity then record { spec = q.number; elem = (f x).id } ∷ [] else [])
+pairs_next f q xs i x l e =
+    ap (λ zs. pair_list q (map f zs)) (take_more xs i x l ∙ ap (λ y. take i xs ++ y ∷ []) (sym e)) ∙ ap (pair_list q) (map-append f (take i xs) (x ∷ [])) ∙ pairs_plus q (map f (take i xs)) (f x)
 
-pub rows_of : (q : Specification) (m : List Instance) → q.for_model ≡ true → pair_rows q m ≡ map empty_row (pairs_of q m)
-rows_of q m e = rw e
+pub pairs_all : (q : Specification) (m : List Instance) → q.for_model ≡ true → pair_list q m ≡ pairs_of q m
+pairs_all q m e = rw e
+
+-- Lost pairs.
+
+picked_one : (b : Bool) (id : ℕ) (q : Specification) → map {B = Pair} (λ (x : Specification). record { spec = x.number; elem = id }) (cond b (q ∷ []) []) ≡ (if b then record { spec = q.number; elem = id } ∷ [] else [])
+picked_one true id q = refl
+picked_one false id q = refl
+
+-- one more specification
+pub lost_next : (specs : List Specification) (id : ℕ) (one other : Option Instance) (i : ℕ) (q : Specification) → i < length specs → q ≡ get_or specs i q →
+    lost_at (take (i + 1) specs) id one other ≡ lost_at (take i specs) id one other ++ (if makes_at q one && not (makes_at q other) then record { spec = q.number; elem = id } ∷ [] else [])
+lost_next specs id one other i q l e =
+    ap (λ (qs : List Specification). lost_at qs id one other) (take_more specs i q l ∙ ap (λ y. take i specs ++ y ∷ []) (sym e))
+    ∙ ap (λ (qs : List Specification). map {B = Pair} (λ (x : Specification). record { spec = x.number; elem = id }) qs) (filter-append (λ (x : Specification). makes_at x one && not (makes_at x other)) (take i specs) (q ∷ []))
+    ∙ map-append {B = Pair} (λ (x : Specification). record { spec = x.number; elem = id }) (filter (λ (x : Specification). makes_at x one && not (makes_at x other)) (take i specs)) (filter (λ (x : Specification). makes_at x one && not (makes_at x other)) (q ∷ []))
+    ∙ ap (λ (ps : List Pair). lost_at (take i specs) id one other ++ ps) (picked_one (makes_at q one && not (makes_at q other)) id q)
+
+-- one more key
+pub keys_next : (specs : List Specification) (m n : List Instance) (keys : List Key) (i : ℕ) (k : Key) → i < length keys → k ≡ get_or keys i k → lost specs m n (take (i + 1) keys) ≡ lost specs m n (take i keys) ++ lost_by specs m n k
+keys_next specs m n keys i k l e =
+    ap (λ (ks : List Key). lost specs m n ks) (take_more keys i k l ∙ ap (λ y. take i keys ++ y ∷ []) (sym e))
+    ∙ flat_map-append (lost_by specs m n) (take i keys) (k ∷ [])
+    ∙ ap (λ (ps : List Pair). lost specs m n (take i keys) ++ ps) (append-nil (lost_by specs m n k))
 
 -- The model of a file has as many instances as the file.
 
@@ -51,25 +76,25 @@ pub length-model_of_file : (xs : List Instance) → length (model_of_file xs) �
 length-model_of_file [] = refl
 length-model_of_file (x ∷ xs) = length-with_instance x (model_of_file xs) ∙ ap suc (length-model_of_file xs)
 
-empty_board : (g : Ground) → map empty_row (pairs g.specs g.first) ≡ board_by g [] []
+new_board : (g : Ground) → map new_row (pairs g.specs g.first) ≡ board_by g [] [] []
 unfolding board_by
-empty_board g = refl
+new_board g = refl
 
-pub kept_first : (g : Ground) (room : ℕ) (v : SnapshotView) (log : FinMap nat_cmp ℕ) → NumberedFrom 1 g.specs → IsModel g.first → length g.first ≤ g.limits.instances → IsSnapshotOf g.schema g.first 0 v → ((k : Key) → last_in log k ≡ 0) → IsKept g [] v (map empty_row (pairs g.specs g.first)) 0 [] log 0 room
-kept_first g room v log n m l now none =
+pub kept_first : (g : Ground) (places : ℕ) (v : SnapshotView) (log : FinMap nat_cmp ℕ) → NumberedFrom 1 g.specs → IsModel g.first → length g.first ≤ g.limits.instances → IsSnapshotOf g.schema g.first 0 v → ((k : Key) → last_in log k ≡ 0) → IsKept g [] v (record { headings = map heading_of g.specs; rows = map new_row (pairs g.specs g.first) }) [] log 0 0 places
+kept_first g places v log n m l now none =
     record {
       legal = tt;
       numbered = n;
       ascending = m;
       size = l;
       now = now;
-      board = empty_board g;
-      within = omega arith;
-      none_before = refl;
+      headings = refl;
+      board = new_board g;
       claims = refl;
       changes = none;
       number_is = refl;
       numbers = omega arith;
       fits = omega arith;
+      memory = omega arith;
       few = omega arith;
     }

@@ -1,12 +1,12 @@
-pub mod Lists
 pub mod Order
+pub mod SamePairs
+pub mod Rowed
 pub mod First
-pub mod TallyLemmas
 pub mod Ends
 pub mod Boards
-pub mod PairOrder
 pub mod Uses
 pub mod Entries
+pub mod Lost
 pub mod CommitLaws
 pub mod JudgeLaws
 pub mod BoardTallies

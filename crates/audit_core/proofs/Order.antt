@@ -1,17 +1,12 @@
--- The order of pairs, and rows in this order.
-use Rattle.std.proofs.Common.{◌≡◌, ℕ, suc, ◌+◌, ◌<◌, ◌≤◌, Bool, true, false, cond, ◌&&◌, ◌||◌, ◌==◌, if◌then◌else◌, nat_lt, List, [], ◌∷◌, length, get_or, Option, Some, None, refl, arith, ap, sym, subst, ◌∙◌, inl, inr, set}
-use Rattle.std.specs.List.{prefix_len, slice_get, list_any}
-use Rattle.std.specs.Option.{option_map}
-use Rattle.std.proofs.lemmas.Option.{slice_get_past, slice_get_read}
+-- The order of pairs: by specification and then by element.
+use Rattle.std.proofs.Common.{◌≡◌, ℕ, ◌+◌, ◌<◌, ◌≤◌, Bool, true, false, ◌&&◌, ◌||◌, ◌==◌, nat_lt, refl, arith, sym, subst, ◌∙◌, inl, inr}
 use Rattle.std.proofs.lemmas.Bool.{cases_lt, and_parts, lt-ltb, le-ltb, ltb-true, eqb-true, eq-eqb, true≢false}
 use Rattle.audit_model.specs.declared.verdict.Pair.{Pair}
 use Rattle.audit_model.specs.Pairs.{same_pair}
 use Rattle.audit_model.specs.Laws.{ComesBefore}
 use Rattle.audit_model.proofs.Apart.{same_pair-true}
-use Rattle.audit_core.specs.declared.board.Row.{Row}
-use Rattle.audit_core.specs.declared.board.Kept.{Kept}
-use Rattle.audit_core.specs.Rows.{below, AreAfter, AreAscending, row_place, settled_rows}
-use Rattle.audit_core.proofs.Lists.{IsSplit}
+use Rattle.audit_model.proofs.Claims.{same_pair-refl}
+use Rattle.dirty_board.specs.Rows.{below}
 
 pub is_below : (p q : Pair) → below p q ≡ true → ComesBefore p q
 is_below p q e =
@@ -36,7 +31,7 @@ pub below_trans : (p q r : Pair) → below p q ≡ true → below q r ≡ true �
 below_trans p q r a b = to_below p r (over p q r (is_below p q a) (is_below q r b))
 
 -- of a pair that isn't below another the other is, or they are one
-not_below : (p q : Pair) → below p q ≡ false → same_pair q p ≡ false → below q p ≡ true
+pub not_below : (p q : Pair) → below p q ≡ false → same_pair q p ≡ false → below q p ≡ true
 not_below p q f d =
     elim (cases_lt p.spec q.spec) [
       | inl l ↦ absurd (true≢false (sym (to_below p q (inl l)) ∙ f))
@@ -58,107 +53,22 @@ apart p q n =
     let at : F (same_pair p q) = elim (same_pair p q) as F [ true ↦ λ s. absurd (n (same_pair-true p q s)) | false ↦ λ s. refl ] in
     at refl
 
-not_itself : (p : Pair) → below p p ≡ true → ⊥
+pub not_itself : (p : Pair) → below p p ≡ true → ⊥
 not_itself p e = elim (is_below p p e) [ inl l ↦ omega (arith, l) | inr l ↦ omega (arith, l.1) ]
 
 -- a pair that is below another isn't it, and neither is one that is above
-other_below : (p q : Pair) → below p q ≡ true → same_pair q p ≡ false
+pub other_below : (p q : Pair) → below p q ≡ true → same_pair q p ≡ false
 other_below p q e = apart q p (λ s. not_itself p (subst (λ (x : Pair). below p x ≡ true) s e))
 
-other_above : (p q : Pair) → below q p ≡ true → same_pair q p ≡ false
+pub other_above : (p q : Pair) → below q p ≡ true → same_pair q p ≡ false
 other_above p q e = apart q p (λ s. not_itself p (subst (λ (x : Pair). below x p ≡ true) s e))
 
--- rows after a pair that isn't below p are not below it
-none_below : (p x : Pair) (rs : List Row) → below x p ≡ false → AreAfter x rs → list_any (λ r. below r.pair p) rs ≡ false
-none_below p x [] f a = refl
-none_below p x (r ∷ rs) f a =
-    let F : Bool → Type 0 = λ b. below r.pair p ≡ b → (b || list_any (λ s. below s.pair p) rs) ≡ false in
-    let at : F (below r.pair p) = elim (below r.pair p) as F [
-      | true ↦ λ e. absurd (true≢false (sym (below_trans x r.pair p a.0 e) ∙ f))
-      | false ↦ λ e. none_below p x rs f a.1
-    ] in
-    at refl
-
-pub rows_split : (p : Pair) (rows : List Row) → AreAscending rows → IsSplit (λ r. below r.pair p) rows
-rows_split p [] h = tt
-rows_split p (r ∷ rs) h = (λ f. none_below p r.pair rs f h.0, rows_split p rs h.1)
-
--- no row after p is of p
-none_after : (p : Pair) (rs : List Row) → AreAfter p rs → row_place p rs ≡ None
-none_after p [] a = refl
-none_after p (r ∷ rs) a = rw (other_above r.pair p a.0, none_after p rs a.1)
-
-after_more : (p x : Pair) (rs : List Row) → below p x ≡ true → AreAfter x rs → AreAfter p rs
-after_more p x [] b a = tt
-after_more p x (r ∷ rs) b a = (below_trans p x r.pair b a.0, after_more p x rs b a.1)
-
--- the place, if the row there is of the pair
-abbrev pub checked : Pair → ℕ → Option Row → Option ℕ
-checked p i None = None
-checked p i (Some r) = if same_pair p r.pair then Some i else None
-
-checked_more : (p : Pair) (i j : ℕ) (o : Option Row) → j ≡ suc i → option_map (λ n. suc n) (checked p i o) ≡ checked p j o
-checked_more p i j None e = refl
-checked_more p i j (Some r) e =
-    elim (same_pair p r.pair) as (λ b. option_map (λ n. suc n) (if b then Some i else None) ≡ (if b then Some j else None)) [ true ↦ ap (λ (n : ℕ). Some n) (sym e) | false ↦ refl ]
-
--- the row of a pair can stand behind all that are below it alone
-pub place_is : (p : Pair) (rows : List Row) → AreAscending rows → row_place p rows ≡ checked p (prefix_len (λ r. below r.pair p) rows) (slice_get rows (prefix_len (λ r. below r.pair p) rows))
-place_is p [] h = refl
-place_is p (r ∷ rs) h =
-    let F : Bool → Type 0 = λ b. below r.pair p ≡ b → row_place p (r ∷ rs) ≡ checked p (cond b (1 + prefix_len (λ s. below s.pair p) rs) 0) (slice_get (r ∷ rs) (cond b (1 + prefix_len (λ s. below s.pair p) rs) 0)) in
-    let at : F (below r.pair p) = elim (below r.pair p) as F [
-      | true ↦ λ e.
-          let k : ℕ = prefix_len (λ s. below s.pair p) rs in
-          let one : 1 + prefix_len (λ s. below s.pair p) rs ≡ suc (prefix_len (λ s. below s.pair p) rs) = omega arith in
-          rw (other_below r.pair p e, one, place_is p rs h.1) (checked_more p (prefix_len (λ s. below s.pair p) rs) (suc (prefix_len (λ s. below s.pair p) rs)) (slice_get rs (prefix_len (λ s. below s.pair p) rs)) refl)
-      | false ↦ λ e.
-          let G : Bool → Type 0 = λ b. same_pair p r.pair ≡ b → (if b then Some 0 else option_map (λ i. suc i) (row_place p rs)) ≡ (if b then Some 0 else None) in
-          let here : G (same_pair p r.pair) = elim (same_pair p r.pair) as G [
-            | true ↦ λ s. refl
-            | false ↦ λ s. rw (none_after p rs (after_more p r.pair rs (not_below r.pair p e s) h.0))
-          ] in
-          here refl
-    ] in
-    at refl
-
-pub place_past : (p : Pair) (rows : List Row) → AreAscending rows → length rows ≤ prefix_len (λ r. below r.pair p) rows → row_place p rows ≡ None
-place_past p rows h l = rw (place_is p rows h, slice_get_past rows (prefix_len (λ r. below r.pair p) rows) l)
-
-pub place_read : (p : Pair) (rows : List Row) (r : Row) (b : Bool) → AreAscending rows → prefix_len (λ s. below s.pair p) rows < length rows → r ≡ get_or rows (prefix_len (λ s. below s.pair p) rows) r → same_pair p r.pair ≡ b → row_place p rows ≡ (if b then Some (prefix_len (λ s. below s.pair p) rows) else None)
-place_read p rows r b h l e same = rw (place_is p rows h, slice_get_read rows (length rows) (prefix_len (λ s. below s.pair p) rows) r refl l e, same)
-
--- Writes at the place of a pair.
-
-pub place_within : (p : Pair) (rows : List Row) (i : ℕ) → row_place p rows ≡ Some i → i < length rows
-place_within p [] i e = absurd (cc)
-place_within p (r ∷ rs) i e =
-    let F : Bool → Type 0 = λ b. (if b then Some 0 else option_map (λ n. suc n) (row_place p rs)) ≡ Some i → i < length (r ∷ rs) in
-    let G : Option ℕ → Type 0 = λ o. row_place p rs ≡ o → option_map (λ n. suc n) o ≡ Some i → i < length (r ∷ rs) in
-    let rest : G (row_place p rs) = elim (row_place p rs) as G [
-      | None ↦ λ k t. absurd (cc)
-      | Some j ↦ λ k t. let l : j < length rs = place_within p rs j k in let same : suc j ≡ i = cc in omega (arith, l, same)
-    ] in
-    let at : F (same_pair p r.pair) = elim (same_pair p r.pair) as F [ true ↦ λ t. let same : 0 ≡ i = cc in omega (arith, same) | false ↦ λ t. rest refl t ] in
-    at e
-
-pub set_place : (p : Pair) (k : Kept) (rows : List Row) (i : ℕ) (d : Row) → row_place p rows ≡ Some i → set rows i (record { pair = (get_or rows i d).pair; kept = Some k }) ≡ settled_rows p k rows
-set_place p k [] i d e = absurd (cc)
-set_place p k (r ∷ rs) i d e =
-    let F : Bool → Type 0 = λ b. (if b then Some 0 else option_map (λ n. suc n) (row_place p rs)) ≡ Some i → set (r ∷ rs) i (record { pair = (get_or (r ∷ rs) i d).pair; kept = Some k }) ≡ (if b then record { pair = r.pair; kept = Some k } ∷ rs else r ∷ settled_rows p k rs) in
-    let G : Option ℕ → Type 0 = λ o. row_place p rs ≡ o → option_map (λ n. suc n) o ≡ Some i → set (r ∷ rs) i (record { pair = (get_or (r ∷ rs) i d).pair; kept = Some k }) ≡ r ∷ settled_rows p k rs in
-    let rest : G (row_place p rs) = elim (row_place p rs) as G [
-      | None ↦ λ h t. absurd (cc)
-      | Some j ↦ λ h t. let same : suc j ≡ i = cc in rw (← same) (ap (λ xs. r ∷ xs) (set_place p k rs j d h))
-    ] in
-    let at : F (same_pair p r.pair) = elim (same_pair p r.pair) as F [ true ↦ λ t. let same : 0 ≡ i = cc in rw (← same) | false ↦ λ t. rest refl t ] in
-    at e
-
-pub set_none : (p : Pair) (k : Kept) (rows : List Row) → row_place p rows ≡ None → rows ≡ settled_rows p k rows
-set_none p k [] e = refl
-set_none p k (r ∷ rs) e =
-    let F : Bool → Type 0 = λ b. (if b then Some 0 else option_map (λ n. suc n) (row_place p rs)) ≡ None → r ∷ rs ≡ (if b then record { pair = r.pair; kept = Some k } ∷ rs else r ∷ settled_rows p k rs) in
-    let G : Option ℕ → Type 0 = λ o. row_place p rs ≡ o → option_map (λ n. suc n) o ≡ None → r ∷ rs ≡ r ∷ settled_rows p k rs in
-    let rest : G (row_place p rs) = elim (row_place p rs) as G [ None ↦ λ h t. ap (λ xs. r ∷ xs) (set_none p k rs h) | Some j ↦ λ h t. absurd (cc) ] in
-    let at : F (same_pair p r.pair) = elim (same_pair p r.pair) as F [ true ↦ λ t. absurd (cc) | false ↦ λ t. rest refl t ] in
-    at e
+-- whether two pairs are one doesn't hang on their order
+pub same_swap : (p q : Pair) → same_pair p q ≡ same_pair q p
+same_swap p q = bool_same (same_pair p q) (same_pair q p)
+    (λ e. subst (λ (x : Pair). same_pair x p ≡ true) (same_pair-true p q e) (same_pair-refl p))
+    (λ e. subst (λ (x : Pair). same_pair x q ≡ true) (same_pair-true q p e) (same_pair-refl q)) where
+      bool_same : (a b : Bool) → (a ≡ true → b ≡ true) → (b ≡ true → a ≡ true) → a ≡ b
+      bool_same true b f g = sym (f refl)
+      bool_same false true f g = g refl
+      bool_same false false f g = refl

@@ -51,5 +51,6 @@ prepared_stays old new p r u = record {
   base_past = rw u.history r.base_past;
   not_full = rw (u.ground, u.history) r.not_full;
   room = le_trans r.room u.spare;
+  enough = rw (u.ground, u.history) r.enough;
   log_is = rw (u.ground, u.history) r.log_is;
 }

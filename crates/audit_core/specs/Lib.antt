@@ -1,7 +1,6 @@
 pub mod Cores
 pub mod Steps
 pub mod Rows
-pub mod Tallying
 pub mod Kept
 pub mod Commits
 pub mod Fitting

@@ -1,21 +1,24 @@
--- The rows that a core keeps: one for each pair of the current model, with what is kept of it where the pair is settled.
-use Rattle.std.specs.Prelude.{◌≡◌, ℕ, suc, min, Bool, true, not, ◌&&◌, ◌||◌, ◌==◌, nat_lt, if◌then◌else◌, List, [], ◌∷◌, Option, Some, None, is_none, map, find, fold}
+-- The rows of the board by the history: one for each pair of the current model, with what is kept of it where the pair is settled, and
+-- whether a claim of it is out; and what a commit does to them.
+use Rattle.std.specs.Prelude.{ℕ, Bool, false, not, ◌&&◌, if◌then◌else◌, List, [], ◌∷◌, Option, Some, None, map, filter, flat_map, fold, true}
 use Rattle.std.specs.List.{list_any}
-use Rattle.std.specs.Option.{option_map}
 use Rattle.ifc_base.specs.declared.value.Instance.{Instance}
 use Rattle.ifc_base.specs.declared.key.Key.{Key}
+use Rattle.ifc_base.specs.declared.key.Key.TheVariants.{Inst, Refs}
 use Rattle.schema_table.specs.Schema.{Schema}
 use Rattle.audit_model.specs.declared.commit.Edit.{Edit}
 use Rattle.audit_model.specs.declared.specification.Specification.{Specification}
 use Rattle.audit_model.specs.declared.verdict.Pair.{Pair}
 use Rattle.audit_model.specs.declared.step.Given.{Given}
 use Rattle.audit_model.specs.declared.step.StepRec.{StepRec}
+use Rattle.audit_model.specs.Models.{instance_at}
 use Rattle.audit_model.specs.Verdicts.{verdict}
 use Rattle.audit_model.specs.Needs.{need}
-use Rattle.audit_model.specs.Pairs.{pairs, same_pair}
-use Rattle.audit_model.specs.History.{Ground, commits, used, model_after, settled_by}
-use Rattle.audit_core.specs.declared.board.Row.{Row}
-use Rattle.audit_core.specs.declared.board.Kept.{Kept}
+use Rattle.audit_model.specs.Pairs.{may_apply, pairs, same_pair}
+use Rattle.audit_model.specs.History.{Ground, commits, used, out, model_after, settled_by}
+use Rattle.dirty_board.specs.declared.rows.Row.{Row}
+use Rattle.dirty_board.specs.declared.rows.Kept.{Kept}
+use Rattle.dirty_board.specs.Rows.{marking, with_row}
 
 -- By the history.
 
@@ -23,70 +26,40 @@ use Rattle.audit_core.specs.declared.board.Kept.{Kept}
 abbrev pub found : Schema → List Specification → List Instance → Pair → Kept
 found s specs m p = record { verdict = verdict s specs p m; needs = need s specs p m }
 
--- the row of a pair after these commits and used claims
-abbrev pub row_by : Ground → List (List Edit) → List Given → Pair → Row
-row_by g cs us p = record { pair = p; kept = if settled_by g cs us p then Some (found g.schema g.specs (model_after g cs) p) else None }
+-- one of these claims is of the pair
+abbrev pub is_of : List Given → Pair → Bool
+is_of held p = list_any (λ c. same_pair c.pair p) held
+
+-- the row of a pair after these commits and used claims, while these claims are out
+abbrev pub row_by : Ground → List (List Edit) → List Given → List Given → Pair → Row
+row_by g cs us held p = record { pair = p; kept = if settled_by g cs us p then Some (found g.schema g.specs (model_after g cs) p) else None; out = is_of held p }
 
 -- the rows of the pairs of the current model
-unfoldable pub board_by : Ground → List (List Edit) → List Given → List Row
-board_by g cs us = map (row_by g cs us) (pairs g.specs (model_after g cs))
+unfoldable pub board_by : Ground → List (List Edit) → List Given → List Given → List Row
+board_by g cs us held = map (row_by g cs us held) (pairs g.specs (model_after g cs))
 
 abbrev pub board_of : Ground → List StepRec → List Row
-board_of g h = board_by g (commits h) (used h)
-
--- a row in which nothing is kept
-abbrev pub empty_row : Pair → Row
-empty_row p = record { pair = p; kept = None }
-
--- Order: by specification and then by element.
-
-abbrev pub below : Pair → Pair → Bool
-below p q = nat_lt p.spec q.spec || (p.spec == q.spec && nat_lt p.elem q.elem)
-
--- the pairs of these rows come after p
-abbrev pub AreAfter : Pair → List Row → Type 0
-AreAfter p [] = Unit {0}
-AreAfter p (r ∷ rs) = (below p r.pair ≡ true) × AreAfter p rs
-
-abbrev pub AreAscending : List Row → Type 0
-AreAscending [] = Unit {0}
-AreAscending (r ∷ rs) = AreAfter r.pair rs × AreAscending rs
-
--- the place of the pair's row, from 0, or none
-abbrev pub row_place : Pair → List Row → Option ℕ
-row_place p [] = None
-row_place p (r ∷ rs) = if same_pair p r.pair then Some 0 else option_map (λ i. suc i) (row_place p rs)
-
--- Claims.
-
--- nothing is kept of the row's pair, and none of these claims is of it
-abbrev pub is_claimable : List Given → Row → Bool
-is_claimable held r = is_none r.kept && not (list_any (λ c. same_pair c.pair r.pair) held)
-
--- the rows after this is kept in the pair's row
-abbrev pub settled_rows : Pair → Kept → List Row → List Row
-settled_rows p k [] = []
-settled_rows p k (r ∷ rs) = if same_pair p r.pair then record { pair = r.pair; kept = Some k } ∷ rs else r ∷ settled_rows p k rs
-
--- How many rows at the front are known to be out of question for a claim, once the claim on the row at this place has ended.
-abbrev pub back_to : ℕ → Option ℕ → ℕ
-back_to passed None = passed
-back_to passed (Some place) = min passed place
+board_of g h = board_by g (commits h) (used h) (out h)
 
 -- Commits.
 
--- what was kept stays kept, since no key that it needs was changed after the revision `since`
-abbrev pub stays_kept : (Key → ℕ) → ℕ → Kept → Bool
-stays_kept last since k = is_none (find (λ key. nat_lt since (last key)) k.needs)
+-- the specification makes a pair with the instance that stands at a place, if one does
+abbrev pub makes_at : Specification → Option Instance → Bool
+makes_at q None = false
+makes_at q (Some x) = q.for_model && may_apply q x.entity
 
-abbrev pub kept_over : (Key → ℕ) → ℕ → Pair → Option Kept → List Row → List Row
-kept_over last since p None rows = rows
-kept_over last since p (Some k) rows = if stays_kept last since k then settled_rows p k rows else rows
+-- the pairs of the element of this id while the one instance stands there, without those while the other does
+abbrev pub lost_at : List Specification → ℕ → Option Instance → Option Instance → List Pair
+lost_at specs id one other = map (λ q. record { spec = q.number; elem = id }) (filter (λ q. makes_at q one && not (makes_at q other)) specs)
 
--- the rows with what stays kept of this earlier row
-abbrev pub carried_row : (Key → ℕ) → ℕ → List Row → Row → List Row
-carried_row last since rows r = kept_over last since r.pair r.kept rows
+abbrev pub lost_by : List Specification → List Instance → List Instance → Key → List Pair
+lost_by specs m n (Inst id) = lost_at specs id (instance_at id m) (instance_at id n)
+lost_by specs m n (Refs id role) = []
 
--- the rows with what stays kept of these earlier rows
-abbrev pub carried : (Key → ℕ) → ℕ → List Row → List Row → List Row
-carried last since rows olds = fold (carried_row last since) rows olds
+-- of the elements whose instances are among these keys, the pairs of the model m that aren't pairs of the model n
+abbrev pub lost : List Specification → List Instance → List Instance → List Key → List Pair
+lost specs m n keys = flat_map (lost_by specs m n) keys
+
+-- the rows, where those of which these claims are, are marked as out
+abbrev pub taken_out : List Given → List Row → List Row
+taken_out held rows = fold (λ rs c. with_row c.pair (marking true) rs) rows held

@@ -7,9 +7,7 @@ use Rattle.audit_model.specs.History.{current, out, claim_numbered}
 use Rattle.audit_model.specs.Machine.{MayFollow, Holds, least_changed, is_full}
 use Rattle.model_view.specs.declared.answers.Halt.{Halt}
 use Rattle.model_view.specs.declared.answers.Halt.TheVariants as halt
-use Rattle.audit_core.specs.declared.board.Kept.{Kept}
 use Rattle.audit_core.specs.Cores.{CoreView}
-use Rattle.audit_core.specs.Rows.{found}
 
 -- the call adds this entry, which may follow, and nothing else
 pub record Adds (old new : CoreView) (e : StepRec) : Type 0 where
@@ -33,12 +31,3 @@ pub record IsClaimOf (core : CoreView) (number : ℕ) (pair : Pair) : Type 0 whe
   pub claim : Given
   pub held : claim_numbered number (out core.history) ≡ Some claim
   pub same_pair : claim.pair ≡ pair
-
--- A claim of this number and pair is out and given to the actor, nothing that it needs was changed since, and this is what is found
--- of the pair now.
-pub record IsUse (core : CoreView) (actor number : ℕ) (pair : Pair) (kept : Kept) : Type 0 where
-  pub claim : Given
-  pub held : Holds core.history actor number claim
-  pub same_pair : claim.pair ≡ pair
-  pub unchanged : least_changed core.ground core.history claim ≡ None
-  pub now : kept ≡ found core.ground.schema core.ground.specs (current core.ground core.history) pair

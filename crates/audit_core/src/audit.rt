@@ -2,26 +2,23 @@ ghost use Rattle.std.specs.Prelude.{◌≡◌, ◌≤◌, ◌<◌, ◌^◌, fals
 ghost use Rattle.audit_model.specs.Models.{IsModel, model_of_file};
 ghost use Rattle.ifc_base.specs.Ids.{HasDistinctIds};
 ghost use Rattle.audit_model.specs.Specifications.{AreSpecifications};
-ghost use Rattle.audit_model.specs.Scratch.{scratch};
 ghost use Rattle.audit_model.specs.History.{changed_since, current, last_change};
 ghost use Rattle.audit_model.specs.Machine.{is_full, least_claimable, least_unsettled, Legal, MayFollow, pairs_now};
 ghost use Rattle.ifc_base.specs.Refusals.{OnFault};
 ghost use Rattle.model_view.specs.Answers.{claim_told, delivery_told, publish_told, tells_full};
 ghost use Rattle.model_view.specs.Answers.{IfGiven, IsAudit, IsNow, IsOut, IsTrue};
 ghost use Rattle.audit_core.specs.Fitting.{model_fault};
-ghost use Rattle.audit_core.specs.Steps.{Adds, IsClaimOf, IsHalted, IsUse, Unchanged};
+ghost use Rattle.audit_core.specs.Steps.{Adds, IsClaimOf, IsHalted, Unchanged};
 
 mod commit;
 
-use crate::board::{
-    Kept, Row, back_to, empty_rows, first_unsettled, next_claimable, pair_at, place_of, settle,
-};
-use crate::carry::first_changed;
+use crate::changes::first_changed;
 use crate::claims::take_back;
 use crate::fits::{ModelFault, is_ifc4, misfit_in};
 use crate::journal::CoreJournal;
-use crate::tallies::tally_all;
-use audit_model::{Call, Given, Limits, Pair, Reply, Specification, StepRec, Tally};
+use crate::pairs::all_pairs;
+use audit_model::{Call, Given, Journal, Limits, Pair, Reply, Specification, StepRec};
+use dirty_board::Board;
 use ifc_base::{Key, Memory, Refusal};
 use inverse_index::ChangeLog;
 use model_view::{Claim, Claimed, Delivered, Finding, Halt, Published, Snapshot};
@@ -35,21 +32,22 @@ use std::marker::Model;
 /// stays the same - the schema, the specifications, the model of the file, the limits - and the history, the newest
 /// entry first. A core isn't dropped: it ends by `into_journal`.
 pub struct Core<'a> {
+    alloc: Global,
     schema: &'a SchemaTable,
     specs: &'a [Specification],
     limits: Limits,
     first: Snapshot,
     current: Snapshot,
-    board: Vec<Row>,
-    passed: usize,
+    board: Board,
     claims: Vec<Given>,
     log: ChangeLog,
     number: u64,
-    journal: Vec<StepRec>,
+    room: usize,
+    journal: Journal,
 }
 
 impl<'a> Model for Core<'a> {
-    ghost use Rattle.std.specs.Prelude.{◌+◌, ◌-◌, reverse, length, vec_capacity};
+    ghost use Rattle.std.specs.Prelude.{◌+◌, ◌-◌, reverse, length};
     ghost use Rattle.std.specs.Coded.{codes};
     ghost use Rattle.ifc_base.specs.contracts.value.Value as value;
     ghost use Rattle.restrictions.specs.contracts.condition.Condition as condition;
@@ -62,13 +60,13 @@ impl<'a> Model for Core<'a> {
 
     ghost view = { λ core. record {
       ground = record { schema = core.schema.now; specs = core.specs.now; first = core.first.model; limits = core.limits };
-      history = reverse core.journal.items;
-      spare = vec_capacity core.journal - (length core.journal.items + length core.claims.items);
+      history = reverse core.journal.entries;
+      spare = core.room - (length core.journal.entries + length core.claims.items);
     } };
 
     ghost invariant = { λ core. IsKept (record { schema = core.schema.now; specs = core.specs.now; first = core.first.model; limits = core.limits })
-        (reverse core.journal.items) core.current core.board.items core.passed core.claims.items core.log core.number
-        (vec_capacity core.journal) };
+        (reverse core.journal.entries) core.current core.board core.claims.items core.log core.number
+        core.room core.journal.room };
 }
 
 impl<'a> Core<'a> {
@@ -102,19 +100,21 @@ impl<'a> Core<'a> {
         if let Some(fault) = misfit_in(alloc, schema, &current)? {
             return Err(Refusal::Fault(fault));
         }
-        let board = empty_rows(alloc, specs, &current)?;
+        let pairs = all_pairs(alloc, specs, &current)?;
+        let board = Board::new(alloc, specs, &pairs)?;
         Ok(Core {
+            alloc,
             schema,
             specs,
             limits,
             first,
             current,
             board,
-            passed: 0,
             claims: Vec::new(alloc),
             log: ChangeLog::new(),
             number: 0,
-            journal: Vec::new(alloc),
+            room: 0,
+            journal: Journal::new(alloc),
         })
     }
 
@@ -123,15 +123,15 @@ impl<'a> Core<'a> {
         ensures pairs { result ≡ length (pairs_now self.now.ground self.now.history) }
         ensures few { result < 2 ^ 63 }
     {
-        self.board.len()
+        self.board.rows().len()
     }
 
     /// The journal, the oldest entry first. It is legal.
-    pub fn journal(&self) -> &[StepRec]
-        ensures entries { result.now ≡ reverse self.now.history }
+    pub fn journal(&self) -> &Journal
+        ensures entries { result.now.entries ≡ reverse self.now.history }
         ensures legal { Legal self.now.ground self.now.history }
     {
-        self.journal.as_slice()
+        &self.journal
     }
 
     /// The journal of the whole run, which is legal. It takes no memory.
@@ -140,19 +140,20 @@ impl<'a> Core<'a> {
         ensures legal { Legal self.entry.ground self.entry.history }
     {
         let Core {
+            alloc: _,
             schema: _,
             specs: _,
             limits: _,
             first: _first,
             current: _current,
             board: _board,
-            passed: _,
             claims: _claims,
             log: _log,
             number: _,
+            room: _,
             journal,
         } = self;
-        CoreJournal::from_entries(journal)
+        CoreJournal::from_journal(journal)
     }
 
     /// Makes room for n more entries, beside one for the end of each claim that is out.
@@ -164,14 +165,22 @@ impl<'a> Core<'a> {
         ensures halted { IfErr result (λ why. IsHalted self.old self.new n why) }
         ensures full { IfErr result (λ why. is_full self.old.ground self.old.history n ≡ tells_full why) }
     {
-        let used = self.journal.len() as u64 + self.claims.len() as u64;
+        let used = self.journal.as_slice().len() as u64 + self.claims.len() as u64;
         if self.limits.steps - used < n {
             return Err(Halt::Full);
         }
-        match self.journal.reserve(self.claims.len() + n as usize) {
-            Ok(()) => Ok(()),
-            Err(_) => Err(Halt::Memory),
+        let wanted = (used + n) as usize;
+        if self.room < wanted {
+            if self
+                .journal
+                .reserve(self.claims.len() + n as usize)
+                .is_err()
+            {
+                return Err(Halt::Memory);
+            }
+            self.room = wanted;
         }
+        Ok(())
     }
 
     /// Begins a draft: the snapshot of the current revision. `O(1)`, amortized.
@@ -196,18 +205,15 @@ impl<'a> Core<'a> {
         Ok(base)
     }
 
-    /// The least unsettled pair that isn't out. It notes the rows that it has passed.
-    fn next_pair(&mut self) -> Option<Pair>
-        ensures pair { result ≡ least_claimable self.old.ground self.old.history }
-        ensures same { self.new ≡ self.old }
+    /// The least unsettled pair that isn't out.
+    fn next_pair(&self) -> Option<Pair>
+        ensures { result ≡ least_claimable self.now.ground self.now.history }
     {
-        let at = next_claimable(&self.board, &self.claims, self.passed);
-        self.passed = at;
-        pair_at(&self.board, at)
+        self.board.least_claimable()
     }
 
     /// Gives the claim of the least unsettled pair that isn't out, at the current revision; or `Idle`
-    /// where there is no such pair. `O(c)` for `c` claims that are out, amortized over the rows.
+    /// where there is no such pair. `O(n / 256)` for `n` pairs, amortized.
     pub fn claim(&mut self, actor: u32) -> Result<Claimed, Halt>
         ensures ok { IfOk result (λ told. Adds self.old self.new
             (record { actor = actor; call = Call.Claim; reply = claim_told told })) }
@@ -265,6 +271,7 @@ impl<'a> Core<'a> {
             pair: *pair,
             revision,
         });
+        self.board.take_out(*pair);
         self.number = number;
         self.journal.push_reserved(StepRec {
             actor,
@@ -300,10 +307,10 @@ impl<'a> Core<'a> {
             (record { actor = actor; call = Call.GiveBack claim.number; reply = Reply.Back }) }
     {
         let number = claim.number();
-        let place = place_of(&self.board, claim.pair());
+        let pair = claim.pair();
         claim.end();
         take_back(&mut self.claims, number);
-        self.passed = back_to(self.passed, place);
+        self.board.put_back(pair);
         self.journal.push_reserved(StepRec {
             actor,
             call: Call::GiveBack { number },
@@ -323,18 +330,14 @@ impl<'a> Core<'a> {
         ensures back { IfErr result (λ back. Unchanged self.old self.new × (back.1 ≡ finding)) }
     {
         let _ = &self.journal;
-        let number = finding.claim().number();
-        let pair = finding.claim().pair();
         let since = finding.claim().revision();
-        let changed = self.changed(finding.needs().as_slice(), since);
-        let (claim, verdict, needs) = finding.into_parts();
-        claim.end();
-        match changed {
-            None => {
-                self.keep(actor, number, pair, Kept { verdict, needs });
-                Ok(Delivered::Used)
-            }
+        match self.changed(finding.needs().as_slice(), since) {
+            None => self.keep(actor, finding),
             Some(key) => {
+                let number = finding.claim().number();
+                let pair = finding.claim().pair();
+                let claim = finding.into_claim();
+                claim.end();
                 let revision = self.last_change(key);
                 self.pass_over(actor, number, pair, &key, revision);
                 Ok(Delivered::Stale { key, revision })
@@ -342,19 +345,31 @@ impl<'a> Core<'a> {
         }
     }
 
-    /// Ends a claim and keeps what was found.
-    fn keep(&mut self, actor: u32, number: u64, pair: Pair, kept: Kept)
-        requires { IsUse self.old actor number pair kept }
-        ensures { Adds self.old self.new (record { actor = actor; call = Call.Deliver number; reply = Reply.Used }) }
+    /// Ends a claim and keeps what was found, none of whose needs was changed.
+    fn keep(&mut self, actor: u32, finding: Finding) -> Result<Delivered, (Memory, Finding)>
+        requires finding { IsTrue self.old.ground self.old.history actor finding }
+        requires unchanged { find (changed_since self.old.ground self.old.history finding.claim.snapshot.revision) finding.needs ≡ None }
+        ensures ok { IfOk result (λ told. Adds self.old self.new
+            (record { actor = actor; call = Call.Deliver finding.claim.number; reply = delivery_told told })) }
+        ensures back { IfErr result (λ back. Unchanged self.old self.new × (back.1 ≡ finding)) }
     {
-        let place = settle(&mut self.board, pair, kept);
-        take_back(&mut self.claims, number);
-        self.passed = back_to(self.passed, place);
-        self.journal.push_reserved(StepRec {
-            actor,
-            call: Call::Deliver { number },
-            reply: Reply::Used,
-        });
+        let (claim, verdict, needs) = finding.into_parts();
+        match self.board.settle(self.alloc, claim.pair(), verdict, needs) {
+            Err((memory, verdict, needs)) => Err((memory, Finding::new(claim, verdict, needs))),
+            Ok(()) => {
+                let number = claim.number();
+                let pair = claim.pair();
+                claim.end();
+                take_back(&mut self.claims, number);
+                self.board.put_back(pair);
+                self.journal.push_reserved(StepRec {
+                    actor,
+                    call: Call::Deliver { number },
+                    reply: Reply::Used,
+                });
+                Ok(Delivered::Used)
+            }
+        }
     }
 
     /// Ends a claim of this pair, whose finding is stale.
@@ -365,9 +380,8 @@ impl<'a> Core<'a> {
         ensures { Adds self.old self.new
             (record { actor = actor; call = Call.Deliver number; reply = Reply.Stale key.now revision }) }
     {
-        let place = place_of(&self.board, pair);
         take_back(&mut self.claims, number);
-        self.passed = back_to(self.passed, place);
+        self.board.put_back(pair);
         self.journal.push_reserved(StepRec {
             actor,
             call: Call::Deliver { number },
@@ -379,25 +393,15 @@ impl<'a> Core<'a> {
     }
 
     /// The least unsettled pair.
-    #[tactic(auto, using(crate::proofs::Boards::unsettled_on_board))]
     fn pending_pair(&self) -> Option<Pair>
         ensures { result ≡ least_unsettled self.now.ground self.now.history }
     {
-        first_unsettled(&self.board)
-    }
-
-    /// The tallies, where every pair is settled.
-    fn tallies(&self, alloc: Global) -> Result<Vec<Tally>, Memory>
-        requires { least_unsettled self.now.ground self.now.history ≡ None }
-        ensures { IfOk result (λ tallies. tallies.items ≡ scratch self.now.ground.schema self.now.ground.specs
-            (current self.now.ground self.now.history)) }
-    {
-        let _most = self.limits.instances;
-        tally_all(alloc, self.specs, &self.board)
+        self.board.least_unsettled()
     }
 
     /// Gives the report of the current revision, rendered from the verdicts that are kept; or the least
-    /// unsettled pair, where there is one. `O(n)` in the number of pairs and the length of the text.
+    /// unsettled pair, where there is one. `O(n / 256)` in the number of pairs, and `O(s + f)` for `s`
+    /// specifications and `f` failing elements, which is the length of the text.
     pub fn publish(&mut self, alloc: Global, actor: u32) -> Result<Published, Halt>
         ensures ok { IfOk result (λ told. Adds self.old self.new
             (record { actor = actor; call = Call.Publish; reply = publish_told told })) }
@@ -443,10 +447,7 @@ impl<'a> Core<'a> {
         ensures full { IfErr result (λ why. is_full self.old.ground self.old.history 1 ≡ tells_full why) }
     {
         let revision = self.current.revision();
-        let Ok(tallies) = self.tallies(alloc) else {
-            return Err(Halt::Memory);
-        };
-        let Ok(text) = render_report(alloc, revision, &tallies) else {
+        let Ok(text) = render_report(alloc, revision, self.board.tallies()) else {
             return Err(Halt::Memory);
         };
         self.journal.push_reserved(StepRec {

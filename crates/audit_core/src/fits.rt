@@ -3,7 +3,7 @@ ghost use Rattle.std.specs.Str.{bytes_eq};
 ghost use Rattle.schema_table.specs.Faults.{instance_fault};
 ghost use Rattle.audit_core.specs.Fitting.{misfit_fault};
 
-use crate::board::instances_of;
+use crate::pairs::instances_of;
 use ifc_base::{InstId, Instance, Memory, Name, Refusal};
 use model_view::Snapshot;
 use schema_table::{InstanceFault, SchemaTable};

@@ -1,6 +1,6 @@
 ghost use Rattle.std.specs.Prelude.{◌≡◌, []};
 
-use audit_model::{Journal, StepRec};
+use audit_model::Journal;
 use std::alloc::Global;
 use std::marker::Model;
 
@@ -20,7 +20,7 @@ impl Model for CoreJournal {
 
     ghost coded = { Prim.hlevel (codes, value.the_row.coded) };
 
-    ghost view = { λ journal. journal.steps };
+    ghost view = { λ journal. journal.steps.entries };
 }
 
 impl CoreJournal {
@@ -33,18 +33,16 @@ impl CoreJournal {
         }
     }
 
-    /// The journal of these entries. It takes no memory.
-    pub(crate) fn from_entries(entries: Vec<StepRec>) -> CoreJournal
-        ensures { result ≡ entries.items }
+    /// The journal that a core has written.
+    pub(crate) fn from_journal(steps: Journal) -> CoreJournal
+        ensures { result ≡ steps.entries }
     {
-        CoreJournal {
-            steps: Journal::from_vec(entries),
-        }
+        CoreJournal { steps }
     }
 
-    /// Its entries.
+    /// Its entries, in the order in which they were made. `O(1)`.
     pub fn steps(&self) -> &Journal
-        ensures { result.now ≡ self.now }
+        ensures { result.now.entries ≡ self.now }
     {
         &self.steps
     }

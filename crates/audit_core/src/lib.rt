@@ -5,16 +5,15 @@
 #![tactic(auto)]
 
 mod audit;
-mod board;
-mod carry;
+mod changes;
 mod claims;
 mod fits;
 mod journal;
 mod judge;
 mod laws;
+mod pairs;
 mod plan;
 mod prepared;
-mod tallies;
 
 pub use audit::Core;
 pub use fits::ModelFault;

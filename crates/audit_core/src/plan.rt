@@ -3,25 +3,25 @@ ghost use Rattle.inverse_index.specs.Index.{Indexes};
 ghost use Rattle.inverse_index.specs.Log.{last_in};
 ghost use Rattle.audit_core.specs.Commits.{IsPlanned};
 
-use crate::board::{Row, empty_rows};
 use crate::judge::{Judged, judge_edits};
-use audit_model::{CommitRefusal, Edits, Limits, Specification};
+use crate::pairs::lost_pairs;
+use audit_model::{CommitRefusal, Edits, Limits, Pair, Specification};
 use ifc_base::{Keys, Memory};
 use inverse_index::ChangeLog;
 use model_view::{Snapshot, dangling};
 use schema_table::SchemaTable;
 use std::alloc::Global;
 
-/// What a commit would make: the next snapshot, the keys that it changes and empty rows for its pairs;
+/// What a commit would make: the next snapshot, the keys that it changes, and the pairs that go and come;
 /// or why it is refused.
 #[derive(Drop)]
 pub enum Planned {
-    Next(Snapshot, Keys, Vec<Row>),
+    Next(Snapshot, Keys, Vec<Pair>, Vec<Pair>),
     Refused(CommitRefusal),
 }
 
 /// Judges the commit of these edits, drafted on the revision `base`, and makes the next snapshot. What
-/// the edits cost twice, and `O(s * n)` for `s` specifications and `n` instances.
+/// the edits cost twice, and `O(s * k)` for `s` specifications and `k` changed keys.
 pub fn plan_commit(
     alloc: Global,
     schema: &SchemaTable,
@@ -46,6 +46,7 @@ pub fn plan_commit(
         return Ok(Planned::Refused(refusal));
     }
     let (next, keys) = now.with_edits(alloc, schema, edits)?;
-    let rows = empty_rows(alloc, specs, &next)?;
-    Ok(Planned::Next(next, keys, rows))
+    let gone = lost_pairs(alloc, specs, now, &next, &keys)?;
+    let come = lost_pairs(alloc, specs, &next, now, &keys)?;
+    Ok(Planned::Next(next, keys, gone, come))
 }

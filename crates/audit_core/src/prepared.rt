@@ -1,5 +1,5 @@
-use crate::board::Row;
 use audit_model::Edits;
+use dirty_board::Room;
 use ifc_base::Keys;
 use inverse_index::ChangeLog;
 use model_view::Snapshot;
@@ -14,7 +14,7 @@ pub struct Prepared {
     pub(crate) next: Snapshot,
     pub(crate) keys: Keys,
     pub(crate) log: ChangeLog,
-    pub(crate) rows: Vec<Row>,
+    pub(crate) space: Room,
 }
 
 impl Model for Prepared {
@@ -35,6 +35,6 @@ impl Model for Prepared {
       next = prepared.next;
       keys = prepared.keys;
       log = prepared.log;
-      rows = prepared.rows.items;
+      space = prepared.space;
     } };
 }

@@ -40,7 +40,7 @@ pub fn step<E: Assess>(
     ensures { Steps (act_done core.old.ground 1 line (place_of editor) core.old.history)
         core.old core.new text.old.items text.new.items result }
 {
-    let from = core.journal().len();
+    let from = core.journal().as_slice().len();
     let (editor, report) = act(alloc, core, evaluator, EDITOR, editor, line)?;
     match tell(core, limits, from, &report, text) {
         Ok(()) => Ok(editor),
@@ -67,7 +67,7 @@ fn tell(
     ensures { OnOk result (text.new.items ≡ text.old.items ++
         (entry_lines limits.now (drop from (reverse core.now.history)) ++ text_in report.now)) }
 {
-    push_entries(text, limits, &core.journal()[from..])?;
+    push_entries(text, limits, &core.journal().as_slice()[from..])?;
     if let Some(report) = report {
         text.extend_from_slice(report.as_slice())?;
     }

@@ -7,11 +7,10 @@ ghost use Rattle.audit_core.specs.Commits.{IsNotPrepared, IsPlan, IsPlanned, IsP
 ghost use Rattle.audit_core.specs.Steps.{Adds, Unchanged};
 
 use super::Core;
-use crate::board::Row;
-use crate::carry::carry;
+use crate::claims::take_out_all;
 use crate::plan::{Planned, plan_commit};
 use crate::prepared::Prepared;
-use audit_model::{Call, CommitRefusal, Edits, Reply, StepRec};
+use audit_model::{Call, CommitRefusal, Edits, Pair, Reply, StepRec};
 use ifc_base::{Keys, Memory, TryCopy};
 use model_view::{Draft, Halt, NotPrepared, Snapshot};
 use std::alloc::Global;
@@ -64,7 +63,7 @@ impl<'a> Core<'a> {
     /// current revision. Where it is accepted the core is as before, and `finish` makes the commit. A
     /// refused draft adds its entry and comes back; where the journal is full, or memory is wanting, the
     /// draft comes back too and the core is as before. It costs what the edits
-    /// touch, and `O(s * n)` for `s` specifications and `n` instances.
+    /// touch, and `O(s * k)` for `s` specifications and `k` changed keys.
     pub fn prepare(
         &mut self,
         alloc: Global,
@@ -88,11 +87,13 @@ impl<'a> Core<'a> {
         match self.plan(alloc, draft.base().revision(), draft.edits()) {
             Err(_) => Err(NotPrepared::Memory(draft)),
             Ok(Planned::Refused(why)) => Err(self.refuse(alloc, actor, draft, why)),
-            Ok(Planned::Next(next, keys, rows)) => self.note(alloc, actor, draft, next, keys, rows),
+            Ok(Planned::Next(next, keys, gone, come)) => {
+                self.note(alloc, actor, draft, next, keys, &gone, &come)
+            }
         }
     }
 
-    /// Notes the changes of a planned commit in a log of their own.
+    /// Notes the changes of a planned commit in a log of their own, and takes the memory for its pairs.
     fn note(
         &mut self,
         alloc: Global,
@@ -100,14 +101,15 @@ impl<'a> Core<'a> {
         draft: Draft,
         next: Snapshot,
         keys: Keys,
-        rows: Vec<Row>,
+        gone: &[Pair],
+        come: &[Pair],
     ) -> Result<Prepared, NotPrepared>
         requires room { 1 ≤ self.old.spare }
         requires not_full { is_full self.old.ground self.old.history 1 ≡ false }
         requires base { draft.base.revision ≤ revision self.old.history }
         requires plan { IsPlan self.old.ground.schema self.old.ground.specs self.old.ground.limits
             (last_change self.old.ground self.old.history) draft.base.revision
-            (revision self.old.history) (current self.old.ground self.old.history) draft.edits next keys rows.items }
+            (revision self.old.history) (current self.old.ground self.old.history) draft.edits next keys gone.now come.now }
         ensures ok { IfOk result (λ prepared. IsPreparedFor self.new prepared) }
         ensures actor { IfOk result (λ prepared. prepared.actor ≡ actor) }
         ensures base { IfOk result (λ prepared. prepared.base ≡ draft.base.revision) }
@@ -119,6 +121,9 @@ impl<'a> Core<'a> {
         let Ok(log) = self.log.with_note(alloc, &keys, next.revision()) else {
             return Err(NotPrepared::Memory(draft));
         };
+        let Ok(space) = self.board.make_room(alloc, gone, come) else {
+            return Err(NotPrepared::Memory(draft));
+        };
         let (base, edits) = draft.into_parts();
         Ok(Prepared {
             actor,
@@ -127,14 +132,16 @@ impl<'a> Core<'a> {
             next,
             keys,
             log,
-            rows,
+            space,
         })
     }
 
     /// Makes a prepared commit, and answers its revision. It asks that no entry was added since it was
     /// prepared: calls that only prepare, or answer that there is no room or no memory, may have come
-    /// between (`prepared_stays`). It takes no memory and always succeeds. `O(n log n)` in the number of
-    /// pairs, for those that stay settled.
+    /// between (`prepared_stays`). It takes no memory and always succeeds. `O(u (log n + k))` for the `u`
+    /// pairs that stand under the changed keys, of `k` needed keys each, among `n` pairs; for each pair
+    /// that goes or comes `O(log n)` and a move of the rows behind it; and `O(c log n)` for the `c`
+    /// claims that are out.
     pub fn finish(&mut self, prepared: Prepared) -> u32
         requires { IsPreparedFor self.old prepared }
         ensures { Adds self.old self.new
@@ -145,16 +152,15 @@ impl<'a> Core<'a> {
             base,
             edits,
             next,
-            keys: _keys,
+            keys,
             log,
-            rows,
+            space,
         } = prepared;
-        let since = self.current.revision();
         let revision = next.revision();
         self.log = log;
-        let olds = std::mem::replace(&mut self.board, rows);
-        carry(&mut self.board, &self.log, since, olds);
-        self.passed = 0;
+        self.board.mark(&keys);
+        self.board.replace_pairs(space);
+        take_out_all(&mut self.board, &self.claims);
         self.current = next;
         self.journal.push_reserved(StepRec {
             actor,

@@ -48,5 +48,7 @@ returns c =
           ∙ ap (λ (o : Option CommitRefusal). option_or o (dangling c.args.now.now.model (apply c.args.schema.now c.args.now.now.model c.args.edits.now))) edited.0 ∙ dangles;
       next_is = record { model = next; revision = c.in_ok-next.ensures.revision; index = c.in_ok-next.ensures.index c.requires.index };
       keys_are = λ k. rw (← next) (c.in_ok-next.ensures.changed k);
-      rows_are = rw (← next) c.in_ok-rows.ensures;
+      keys_ascend = c.in_ok-next.ensures.ascending;
+      gone_are = rw (← next) c.in_ok-gone.ensures;
+      come_are = rw (← next) c.in_ok-come.ensures;
     }

@@ -1,11 +1,16 @@
+use Rattle.std.proofs.Common.{◌∙◌, refl}
 use Rattle.std.proofs.lemmas.List.{reverse-append}
-use Rattle.audit_core.proofs.Entries.{ascending_rows, kept_used}
+use Rattle.model_view.specs.Answers.{given_of}
+use Rattle.audit_core.proofs.Entries.{kept_used}
+use Rattle.audit_core.proofs.Uses.{changed_of, found_now}
 use Rattle.audit_core.proofs.audit.Core.keep.Goals as goal
 
-pub settle-place-requires : goal.settle-place-requires
-settle-place-requires c = ascending_rows c.self.invariant
-
-pub invariant_of-self : goal.invariant_of-self
-invariant_of-self c =
-    rw (c.push_reserved.ensures.items, reverse-append, c.push_reserved.ensures.capacity, c.take_back.ensures.rest, c.back_to-self-inside.ensures, c.settle-place.ensures.place, c.settle-place.ensures.rows)
-    (kept_used c.args.actor c.args.number c.args.pair c.args.kept c.requires.claim c.self.invariant (rw (← c.self.view_is) at c.requires.held) c.requires.same_pair (rw (← c.self.view_is) at c.requires.unchanged) (rw (← c.self.view_is) at c.requires.now))
+pub invariant_of-self-in-Ok : goal.invariant_of-self-in-Ok
+invariant_of-self-in-Ok c =
+    let whole = rw (← c.self.view_is) at c.requires.finding in
+    let true_finding = rw c.into_parts-claim.ensures at whole in
+    let whole_needs = rw (← c.self.view_is) at c.requires.unchanged in
+    let unchanged = rw c.into_parts-claim.ensures at whole_needs in
+    let none = changed_of true_finding ∙ unchanged in
+    rw (c.push_reserved.ensures.entries, reverse-append, c.push_reserved.ensures.room, c.take_back.ensures.rest, c.put_back.ensures, c.in-Ok.ensures.rows, c.number-number.ensures, c.pair-pair.ensures, c.pair.ensures)
+    (kept_used c.args.actor _ _ _ (given_of c.args.actor c.into_parts-claim.result.0) c.self.invariant (record { is_held = true_finding.is_out; by = refl }) refl none (found_now c.self.invariant.legal true_finding none))

@@ -1,9 +1,7 @@
 use Rattle.std.proofs.Common.{◌∙◌, ap, length, List}
-use Rattle.audit_core.specs.declared.board.Row.{Row}
-use Rattle.audit_core.proofs.Boards.{pairs_on_board}
+use Rattle.dirty_board.specs.declared.rows.Row.{Row}
+use Rattle.audit_core.proofs.CommitLaws.{rows_counted}
 use Rattle.audit_core.proofs.audit.Core.pairs.Goals as goal
 
 pub returns-clause-pairs : goal.returns-clause-pairs
-returns-clause-pairs c =
-    let v = c.self.inside in
-    rw (← c.self.view_is) (c.len.ensures ∙ v.board.ok.0 ∙ ap (λ (rows : List Row). length rows) c.self.invariant.board ∙ pairs_on_board _ _ _)
+returns-clause-pairs c = rw (← c.self.view_is) (ap (λ (rows : List Row). length rows) c.rows.ensures ∙ rows_counted c.self.invariant)

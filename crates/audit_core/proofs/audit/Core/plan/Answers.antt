@@ -12,8 +12,8 @@ plan_commit-requires c = record { index = c.self.invariant.now.index }
 
 pub returns : goal.returns
 returns c =
-    let lasts : last_in c.self.inside.log ≡ last_change (record { schema = c.self.inside.schema.now; specs = c.self.inside.specs.now; first = c.self.inside.first.model; limits = c.self.inside.limits }) (reverse c.self.inside.journal.items) = λ i k. c.self.invariant.changes k i in
+    let lasts : last_in c.self.inside.log ≡ last_change (record { schema = c.self.inside.schema.now; specs = c.self.inside.specs.now; first = c.self.inside.first.model; limits = c.self.inside.limits }) (reverse c.self.inside.journal.entries) = λ i k. c.self.invariant.changes k i in
     subst (λ (core : CoreView). IfOk c.plan_commit.result (λ p. IsPlanned core.ground.schema core.ground.specs core.ground.limits (last_change core.ground core.history) c.args.base (revision core.history) (current core.ground core.history) c.args.edits.now p)) c.self.view_is
-    (subst (λ (m : List Instance). IfOk c.plan_commit.result (λ p. IsPlanned c.self.inside.schema.now c.self.inside.specs.now c.self.inside.limits (last_change (record { schema = c.self.inside.schema.now; specs = c.self.inside.specs.now; first = c.self.inside.first.model; limits = c.self.inside.limits }) (reverse c.self.inside.journal.items)) c.args.base (revision (reverse c.self.inside.journal.items)) m c.args.edits.now p)) c.self.invariant.now.model
-    (subst (λ (r : ℕ). IfOk c.plan_commit.result (λ p. IsPlanned c.self.inside.schema.now c.self.inside.specs.now c.self.inside.limits (last_change (record { schema = c.self.inside.schema.now; specs = c.self.inside.specs.now; first = c.self.inside.first.model; limits = c.self.inside.limits }) (reverse c.self.inside.journal.items)) c.args.base r c.self.inside.current.model c.args.edits.now p)) c.self.invariant.now.revision
+    (subst (λ (m : List Instance). IfOk c.plan_commit.result (λ p. IsPlanned c.self.inside.schema.now c.self.inside.specs.now c.self.inside.limits (last_change (record { schema = c.self.inside.schema.now; specs = c.self.inside.specs.now; first = c.self.inside.first.model; limits = c.self.inside.limits }) (reverse c.self.inside.journal.entries)) c.args.base (revision (reverse c.self.inside.journal.entries)) m c.args.edits.now p)) c.self.invariant.now.model
+    (subst (λ (r : ℕ). IfOk c.plan_commit.result (λ p. IsPlanned c.self.inside.schema.now c.self.inside.specs.now c.self.inside.limits (last_change (record { schema = c.self.inside.schema.now; specs = c.self.inside.specs.now; first = c.self.inside.first.model; limits = c.self.inside.limits }) (reverse c.self.inside.journal.entries)) c.args.base r c.self.inside.current.model c.args.edits.now p)) c.self.invariant.now.revision
     (subst (λ (last : Key → ℕ). IfOk c.plan_commit.result (λ p. IsPlanned c.self.inside.schema.now c.self.inside.specs.now c.self.inside.limits last c.args.base c.self.inside.current.revision c.self.inside.current.model c.args.edits.now p)) lasts c.plan_commit.ensures)))

@@ -9,5 +9,5 @@ invariant_of-self c =
     let j = rw (← c.self.view_is) at c.requires.refused in
     let f = rw (← c.self.view_is) at c.requires.not_full in
     let r = rw (← c.self.view_is) at c.requires.room in
-    rw (c.push_reserved.ensures.items, reverse-append, c.push_reserved.ensures.capacity, c.in-Ok.ensures, c.edits.ensures, c.in-Ok-copy.ensures, c.revision-base.ensures, c.base.ensures)
-    (kept_refused c.args.actor c.args.draft.base.revision c.args.draft.edits c.args.why c.self.invariant b j (room_left c.self.inside.journal.items c.self.inside.claims.items _ 1 (omega arith) r) (few_left c.self.invariant 1 f))
+    rw (c.push_reserved.ensures.entries, reverse-append, c.push_reserved.ensures.room, c.in-Ok.ensures, c.edits.ensures, c.in-Ok-copy.ensures, c.revision-base.ensures, c.base.ensures)
+    (kept_refused c.args.actor c.args.draft.base.revision c.args.draft.edits c.args.why c.self.invariant b j (room_left c.self.inside.journal.entries c.self.inside.claims.items _ 1 (omega arith) r) (few_left c.self.invariant 1 f))

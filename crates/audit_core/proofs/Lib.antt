@@ -8,6 +8,5 @@ pub mod PairOrder
 pub mod Uses
 pub mod Entries
 pub mod CommitLaws
-pub mod JudgeLaws
 pub mod BoardTallies
 pub mod Passing

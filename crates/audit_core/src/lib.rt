@@ -10,7 +10,6 @@ mod carry;
 mod claims;
 mod fits;
 mod journal;
-mod judge;
 mod laws;
 mod plan;
 mod prepared;

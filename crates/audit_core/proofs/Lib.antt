@@ -8,6 +8,5 @@ pub mod Uses
 pub mod Entries
 pub mod Lost
 pub mod CommitLaws
-pub mod JudgeLaws
 pub mod BoardTallies
 pub mod Passing

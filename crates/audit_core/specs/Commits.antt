@@ -14,7 +14,7 @@ use Rattle.audit_model.specs.declared.step.Call.TheVariants.{Commit}
 use Rattle.audit_model.specs.declared.step.Reply.TheVariants.{Refused}
 use Rattle.audit_model.specs.Edits.{apply}
 use Rattle.audit_model.specs.Keys.{changes}
-use Rattle.audit_model.specs.Judging.{judge, judge_from}
+use Rattle.audit_model.specs.Judging.{judge}
 use Rattle.audit_model.specs.declared.verdict.Pair.{Pair}
 use Rattle.audit_model.specs.History.{current, revision, last_change}
 use Rattle.audit_model.specs.Machine.{is_full, pairs_now}
@@ -24,8 +24,6 @@ use Rattle.model_view.specs.declared.answers.NotPrepared.{NotPrepared}
 use Rattle.model_view.specs.declared.answers.NotPrepared.TheVariants as unprepared
 use Rattle.inverse_index.specs.Changed.{KeysAscend}
 use Rattle.dirty_board.specs.Rooms.{RoomView}
-use Rattle.audit_core.specs.declared.judge.Judged.{Judged}
-use Rattle.audit_core.specs.declared.judge.Judged.TheVariants as judged
 use Rattle.audit_core.specs.declared.plan.Planned.{Planned}
 use Rattle.audit_core.specs.declared.plan.Planned.TheVariants as planned
 use Rattle.audit_core.specs.Cores.{CoreView}
@@ -41,11 +39,6 @@ pub record IsPlan (s : Schema) (specs : List Specification) (limits : Limits) (l
   pub keys_ascend : KeysAscend keys
   pub gone_are : gone ≡ lost specs m (apply s m edits) keys
   pub come_are : come ≡ lost specs (apply s m edits) m keys
-
--- what judging these edits in turn on the model m comes to
-abbrev pub IsJudged : Schema → Limits → (Key → ℕ) → ℕ → List Instance → List Edit → Judged → Type 0
-IsJudged s limits last base m edits (judged.Refused why) = judge_from s limits last base 1 m edits ≡ Some why
-IsJudged s limits last base m edits (judged.Edited done) = (judge_from s limits last base 1 m edits ≡ None) × (done.model ≡ apply s m edits)
 
 -- the commit is planned, or refused for this reason
 abbrev pub IsPlanned : Schema → List Specification → Limits → (Key → ℕ) → ℕ → ℕ → List Instance → List Edit → Planned → Type 0

@@ -9,7 +9,6 @@ mod changes;
 mod claims;
 mod fits;
 mod journal;
-mod judge;
 mod laws;
 mod pairs;
 mod plan;

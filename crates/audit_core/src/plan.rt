@@ -1,14 +1,14 @@
-ghost use Rattle.std.specs.Prelude.{◌≡◌, IfOk};
+ghost use Rattle.std.specs.Prelude.{◌≡◌, ◌≤◌, length, IfOk};
 ghost use Rattle.inverse_index.specs.Index.{Indexes};
 ghost use Rattle.inverse_index.specs.Log.{last_in};
 ghost use Rattle.audit_core.specs.Commits.{IsPlanned};
 
-use crate::judge::{Judged, judge_edits};
 use crate::pairs::lost_pairs;
 use audit_model::{CommitRefusal, Edits, Limits, Pair, Specification};
-use ifc_base::{Keys, Memory};
+use commit_rules::judge;
+use ifc_base::{Keys, Memory, Refusal};
 use inverse_index::ChangeLog;
-use model_view::{Snapshot, dangling};
+use model_view::Snapshot;
 use schema_table::SchemaTable;
 use std::alloc::Global;
 
@@ -21,7 +21,7 @@ pub enum Planned {
 }
 
 /// Judges the commit of these edits, drafted on the revision `base`, and makes the next snapshot. What
-/// the edits cost twice, and `O(s * k)` for `s` specifications and `k` changed keys.
+/// the edits cost to be judged and to be done, and `O(s * k)` for `s` specifications and `k` changed keys.
 pub fn plan_commit(
     alloc: Global,
     schema: &SchemaTable,
@@ -33,17 +33,26 @@ pub fn plan_commit(
     edits: &Edits,
 ) -> Result<Planned, Memory>
     requires index { Indexes schema.now now.now.model now.now.lists }
+    requires few { length now.now.model ≤ limits.instances }
     ensures { IfOk result (λ plan. IsPlanned schema.now specs.now limits (last_in log.now) base now.now.revision now.now.model edits.now plan) }
 {
-    if now.revision() >= limits.revisions {
-        return Ok(Planned::Refused(CommitRefusal::RevisionsFull));
-    }
-    let edited = match judge_edits(alloc, schema, limits, log, base, now, edits.as_slice())? {
-        Judged::Refused(refusal) => return Ok(Planned::Refused(refusal)),
-        Judged::Edited(edited) => edited,
-    };
-    if let Some(refusal) = dangling(alloc, now, &edited, edits.as_slice())? {
-        return Ok(Planned::Refused(refusal));
+    now.ascends();
+    let (_last, _most) = (limits.revisions, limits.instances);
+    let count = now.len() as u32;
+    match judge(
+        alloc,
+        schema,
+        now,
+        count,
+        log,
+        now.revision(),
+        base,
+        edits,
+        limits,
+    ) {
+        Ok(()) => {}
+        Err(Refusal::Fault(why)) => return Ok(Planned::Refused(why)),
+        Err(Refusal::Memory) => return Err(Memory),
     }
     let (next, keys) = now.with_edits(alloc, schema, edits)?;
     let gone = lost_pairs(alloc, specs, now, &next, &keys)?;

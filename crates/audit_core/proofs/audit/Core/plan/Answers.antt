@@ -8,7 +8,7 @@ use Rattle.audit_core.specs.Commits.{IsPlanned}
 use Rattle.audit_core.proofs.audit.Core.plan.Goals as goal
 
 pub plan_commit-requires : goal.plan_commit-requires
-plan_commit-requires c = record { index = c.self.invariant.now.index }
+plan_commit-requires c = record { index = c.self.invariant.now.index; few = rw c.self.invariant.now.model c.self.invariant.size }
 
 pub returns : goal.returns
 returns c =

@@ -29,6 +29,20 @@ pub enum Command<'a> {
     Replay(Names<'a>),
 }
 
+impl<'a> Command<'a> {
+    ghost use Rattle.std.specs.Prelude.{◌≡◌};
+    ghost use Rattle.command_line.specs.Words.{command_shown, names_shown};
+
+    /// The names of its inputs.
+    pub fn names(self) -> Names<'a>
+        ensures { names_shown result ≡ command_shown self.entry }
+    {
+        match self {
+            Command::Replay(names) => names,
+        }
+    }
+}
+
 /// What the words ask for. They don't hold the program's name.
 ///
 /// `NotTaken` comes only where `clap` doesn't take the words. A line that asks for help or for the

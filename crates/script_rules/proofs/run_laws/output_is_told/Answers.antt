@@ -1,5 +1,5 @@
-use Rattle.audit_model.proofs.run_laws.output_is_told.Goals as goal
-use Rattle.audit_model.proofs.Telling as laws
+use Rattle.script_rules.proofs.run_laws.output_is_told.Goals as goal
+use Rattle.script_rules.proofs.Telling as laws
 
 pub returns : goal.returns
 returns c = laws.output_is_told

@@ -1,4 +1,6 @@
-mod RunExamples
-pub mod RunLaws
 pub mod RunLegal
-pub mod Telling
+pub mod Lifting
+pub mod Agreeing
+pub mod Serving
+pub mod TextLaws
+pub mod Filling

@@ -1,6 +1,11 @@
 pub mod ScriptLines
-pub mod Serial
-pub mod Output
 pub mod ScriptOrder
-pub mod Telling
+pub mod Order
+pub mod Course
+pub mod Script
+pub mod Serial
+pub mod Phased
+pub mod Stopped
+pub mod Output
+pub mod Told
 pub mod RunLaws

@@ -1,47 +1,42 @@
--- Laws of the runs of scripts, each the contract of a function without a body.
-use Rattle.std.specs.Prelude.{◌≡◌, ◌+◌, ◌*◌, ◌≤◌, ◌⊎◌, true, false, List, [], ◌∷◌, ◌++◌, length, reverse}
+-- Laws of the runs of scripts. Histories stand here with the newest entry first.
+use Rattle.std.specs.Prelude.{◌≡◌, ℕ, ◌==◌, List, [], ◌∷◌, ◌++◌, filter, if◌then◌else◌, ◌⊎◌, None}
 use Rattle.audit_model.specs.declared.step.StepRec.{StepRec}
 use Rattle.audit_model.specs.declared.script.Phase.{Phase}
-use Rattle.audit_model.specs.Models.{IsModel}
-use Rattle.audit_model.specs.Pairs.{NumberedFrom}
-use Rattle.audit_model.specs.Report.{audit_text}
-use Rattle.audit_model.specs.History.{Ground, pairs_in, out}
-use Rattle.audit_model.specs.Machine.{Legal}
-use Rattle.audit_model.specs.Drain.{drain, unsettled, drain_after}
-use Rattle.script_rules.specs.Serial.{done, drain_done, serial, meets_full}
-use Rattle.script_rules.specs.ScriptLines.{free}
-use Rattle.script_rules.specs.Output.{output}
-use Rattle.script_rules.specs.Telling.{told, is_of_one_editor}
+use Rattle.audit_model.specs.History.{Ground}
+use Rattle.script_rules.specs.Course.{Job, free, ready, coming, part_after, Goes}
+use Rattle.script_rules.specs.Script.{Task, script_tasks, IsRun, IsDone, MeetsFull}
 
--- one phase without lines
-abbrev pub only_sync : List Phase
-only_sync = record { lines = [] } ∷ []
+-- the second history goes on from the first
+abbrev pub IsLater : List StepRec → List StepRec → Type 0
+IsLater h k = (es : List StepRec) × (k ≡ es ++ h)
 
--- the limit of steps has room for a drain of the file: two entries for each pair, the Idle and the report
-abbrev pub HasRoomToDrain : Ground → Type 0
-HasRoomToDrain g = 2 * length (pairs_in g g.first) + 2 ≤ g.limits.steps
+-- Of two runs of a script one goes on from the other.
+abbrev pub RunsAgree : Type 0
+RunsAgree = (g : Ground) (phases : List Phase) (h k : List StepRec) → IsRun g phases h → IsRun g phases k → IsLater h k ⊎ IsLater k h
 
--- A script of one `sync` makes the drain of the file, and its output is the report of the file's model as revision 0.
-abbrev pub SyncDrainsFile : Type 0
-SyncDrainsFile = (g : Ground) → NumberedFrom 1 g.specs → IsModel g.first → HasRoomToDrain g →
-    (serial g only_sync ≡ drain g) × (meets_full g only_sync ≡ false) × (output g (serial g only_sync) ≡ audit_text g.schema g.specs g.first 0)
+-- Where a run is done, or the next call would be answered Full, every run of the script is a front of it. So there is one such run at
+-- most, and it is either done or meets Full.
+abbrev pub RunIsWhole : Type 0
+RunIsWhole = (g : Ground) (phases : List Phase) (h k : List StepRec) → IsRun g phases h → (IsDone phases h ⊎ MeetsFull g phases h) → IsRun g phases k → IsLater k h
 
--- After a legal history in which no claim is out the drain at the end of a phase is `drain_after`, where the limit of steps has room
--- for it: two entries for each unsettled pair, the Idle and the report.
-abbrev pub DrainIsDone : Type 0
-DrainIsDone = (g : Ground) (h : List StepRec) → NumberedFrom 1 g.specs → IsModel g.first → Legal g h → out h ≡ [] →
-    length h + 2 * length (unsettled g h) + 2 ≤ g.limits.steps → drain_done g h ≡ done (reverse (drain_after g h) ++ h) free
+-- the entries of one actor
+abbrev pub by : ℕ → List StepRec → List StepRec
+by who es = filter (λ e. e.actor == who) es
 
--- The history that phases make is legal, whatever their lines.
-abbrev pub SerialIsLegal : Type 0
-SerialIsLegal = (g : Ground) (phases : List Phase) → Legal g (reverse (serial g phases))
+-- the jobs of one actor
+abbrev pub jobs_of : ℕ → List Task → List Job
+jobs_of who [] = []
+jobs_of who (t ∷ ts) = if t.who == who then t.job ∷ jobs_of who ts else jobs_of who ts
 
--- After a legal history in which no claim is out the drain at the end of a phase is `drain_after`, whose last entry is the report, or
--- it ended before a call that would be answered Full.
-abbrev pub DrainEnds : Type 0
-DrainEnds = (g : Ground) (h : List StepRec) → NumberedFrom 1 g.specs → IsModel g.first → Legal g h → out h ≡ [] →
-    ((drain_done g h).full ≡ true) ⊎ (drain_done g h ≡ done (reverse (drain_after g h) ++ h) free)
+-- these entries of an actor, with those of others between them or not, are its jobs, all or a front of them
+abbrev pub GoesAlong : ℕ → List Job → List StepRec → Type 0
+GoesAlong who jobs es = Goes who (ready free jobs) (by who es)
 
--- The output of a legal history with the lines of one editor is what is told of it, entry by entry.
-abbrev pub OutputIsTold : Type 0
-OutputIsTold = (g : Ground) (h : List StepRec) → Legal g h → is_of_one_editor h ≡ true → output g (reverse h) ≡ (told g h).whole
+-- and all of them
+abbrev pub GoesThrough : ℕ → List Job → List StepRec → Type 0
+GoesThrough who jobs es = GoesAlong who jobs es × (coming (part_after (ready free jobs) (by who es)) ≡ None)
+
+-- In a run of a script the entries of each actor are its own jobs in their order, each once; all of them where the script is done.
+abbrev pub EachFollows : Type 0
+EachFollows = (g : Ground) (phases : List Phase) (h : List StepRec) (who : ℕ) → IsRun g phases h →
+    GoesAlong who (jobs_of who (script_tasks phases)) h × (IsDone phases h → GoesThrough who (jobs_of who (script_tasks phases)) h)

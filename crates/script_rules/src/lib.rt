@@ -4,4 +4,7 @@
 
 mod run_laws;
 
-pub use run_laws::{drain_ends, drain_is_done, output_is_told, serial_is_legal, sync_drains_file};
+pub use run_laws::{
+    each_follows, full_is_long, output_grows, output_is_told, run_is_front, run_is_serial, run_is_whole,
+    runs_agree,
+};

@@ -1,244 +1,295 @@
--- The lines of a phase.
-use Rattle.std.proofs.Common.{◌≡◌, ℕ, ◌+◌, Bool, true, false, cond, not, List, [], ◌∷◌, ◌++◌, reverse, Option, Some, None, Ok, is_some, refl, ap, sym, subst, ◌∙◌}
-use Rattle.std.proofs.lemmas.Bool.{eq-eqb}
-use Rattle.std.proofs.lemmas.List.{reverse-append}
-use Rattle.audit_model.specs.declared.commit.Edit.{Edit}
+-- What was made in a phase.
+use Rattle.std.proofs.Common.{◌≡◌, ℕ, ◌≤◌, ◌<◌, ◌==◌, ◌&&◌, Bool, true, false, cond, List, [], ◌∷◌, ◌++◌, ◌+◌, filter, Option, Some, None, Result, Ok, Err, ◌⊎◌, inl, inr, arith, refl, ap, sym, subst, ◌∙◌}
+use Rattle.std.proofs.lemmas.Bool.{ne_eqb, and_right}
+use Rattle.std.proofs.lemmas.List.{append-nil, append_assoc}
 use Rattle.audit_model.specs.declared.step.StepRec.{StepRec}
-use Rattle.audit_model.specs.declared.step.Given.{Given}
-use Rattle.audit_model.specs.declared.step.Call.TheVariants as calls
-use Rattle.audit_model.specs.declared.script.Act.{Act}
-use Rattle.audit_model.specs.declared.script.Act.TheVariants.{Begin, Change, Commit, Publish, Take, Give, Work}
 use Rattle.audit_model.specs.declared.script.ScriptLine.{ScriptLine}
 use Rattle.audit_model.specs.declared.script.Phase.{Phase}
-use Rattle.audit_model.specs.History.{Ground, out}
-use Rattle.audit_model.specs.Machine.{is_full}
-use Rattle.script_rules.specs.ScriptLines.{Place, place, free, drafted}
-use Rattle.script_rules.specs.ScriptOrder.{IsOrderly, drafts_after, holds_after}
-use Rattle.script_rules.specs.Serial.{Done, ended, with_room, act_done, commit_done, give_done, rounds, Run, moved, placed, line_run, lines_run, sync_run, phases_run, drain_done}
-use Rattle.script_rules.specs.Telling.{told, is_of_one_editor}
-use Rattle.model_view.specs.Views.{DraftView}
+use Rattle.audit_model.specs.declared.script.Act.TheVariants.{Change, Publish}
+use Rattle.audit_model.specs.declared.step.Call.{Call}
+use Rattle.audit_model.specs.History.{Ground}
 use Rattle.model_view.specs.declared.answers.Halt.{Halt}
-use Rattle.model_view.specs.declared.answers.Halt.TheVariants as halt
 use Rattle.audit_core.specs.Cores.{CoreView}
 use Rattle.serial_run.specs.declared.editor.Editor.{Editor}
-use Rattle.serial_run.specs.declared.editor.Held.{Held}
-use Rattle.serial_run.specs.declared.editor.Held.TheVariants as held
-use Rattle.serial_run.specs.Growth.{IsLater, returns}
-use Rattle.serial_run.specs.Editing.{WorksIn, draft_of, held_of, place_of, is_drafting, is_holding}
-use Rattle.serial_run.specs.Course.{IsReturned, IsStopped, IfFull}
-use Rattle.serial_run.specs.Turns.{IsFree}
-use Rattle.serial_run.specs.Running.{AtRun, IsReached, Steps, Tells, done_of}
-use Rattle.serial_run.proofs.Growing.{same, joined, act_grows, lines_grow}
-use Rattle.serial_run.proofs.Acting.{rounds_place, nothing, holds_nothing}
+use Rattle.script_rules.specs.Course.{Place, place, free, Part, part, Job, line, sweep, next_call, quiet_place, if_called, ready, coming, part_after, Goes}
+use Rattle.script_rules.specs.Script.{Task, tasks, line_tasks, sync_jobs, Course, ready_all, HasRoom}
+use Rattle.script_rules.specs.Order.{AreOfEditors}
+use Rattle.serial_run.specs.Editors.{draft_of, number_of, place_of}
+use Rattle.serial_run.specs.Running.{at, AreEditors, HoldNone, Stands, IsStopped, Runs, Syncs}
+use Rattle.script_rules.specs.RunLaws.{by, jobs_of}
+use Rattle.script_rules.specs.Phased.{IsPhase, HasNoWorkers, ArePhases}
+use Rattle.script_rules.specs.Output.{ends_phase, is_report}
+use Rattle.script_rules.specs.Stopped.{held_after, phase_jobs}
+use Rattle.script_rules.specs.Told.{Texts, all_told, reports, report_by}
+use Rattle.serial_run.proofs.Quiet.{told_line}
+use Rattle.serial_run.specs.Phases.{MakesPhase, StopsPhase}
+use Rattle.serial_run.specs.Plays.{AreQuiet, PlaysQuietly, StopsQuietly}
+use Rattle.serial_run.specs.Runs.{ends}
+use Rattle.script_rules.proofs.Agreeing.{part_of, part_ready, Projects, project}
+use Rattle.serial_run.proofs.Standing.{ready_held}
 
--- What a line leaves open.
+-- Entries of one actor among others.
 
-record Leaves (a : Act) (p q : Place) : Type 0 where
-  pub draft : is_some q.draft ≡ drafts_after (is_some p.draft) a
-  pub held : is_some q.held ≡ holds_after (is_some p.held) a
+pub by_both : (k : ℕ) (es fs : List StepRec) → by k (es ++ fs) ≡ by k es ++ by k fs
+by_both k [] fs = refl
+by_both k (e ∷ es) fs =
+    ap (λ (xs : List StepRec). cond (e.actor == k) (e ∷ xs) xs) (by_both k es fs)
+    ∙ elim (e.actor == k) as (λ b. cond b (e ∷ (by k es ++ by k fs)) (by k es ++ by k fs) ≡ cond b (e ∷ by k es) (by k es) ++ by k fs) [ true ↦ refl | false ↦ refl ]
 
--- a course with room leaves what it leaves
-with_room_leaves : (g : Ground) (n : ℕ) (h : List StepRec) (a : Act) (p : Place) (d : Done) → Leaves a p d.place → (with_room g n h p d).full ≡ false → Leaves a p (with_room g n h p d).place
-with_room_leaves g n h a p d k not =
-    let F : Bool → Type 0 = λ b. (cond b (ended h p) d).full ≡ false → Leaves a p (cond b (ended h p) d).place in
-    let all : F (is_full g h n) = elim (is_full g h n) as F [ true ↦ λ e. absurd (cc) | false ↦ λ e. k ] in
-    all not
+-- what one actor played is of no other
+by_other : (who k : ℕ) (q : Part) (es : List StepRec) → Goes who q es → (k ≡ who → ⊥) → by k es ≡ []
+by_other who k q [] go ne = refl
+by_other who k q (e ∷ es) go ne = ap (λ (b : Bool). cond b (e ∷ by k es) (by k es)) (ne_eqb e.actor k (λ same. ne (sym same ∙ go.0))) ∙ by_other who k q es go.2 ne
 
-pub drafted_some : (e : Edit) (o : Option (ℕ × List Edit)) → is_some (drafted e o) ≡ is_some o
-drafted_some e None = refl
-drafted_some e (Some d) = refl
+-- who has no jobs makes no entries
+none_for : (who : ℕ) (p : Place) (es : List StepRec) → Goes who (part p []) es → es ≡ []
+none_for who p [] go = refl
+none_for who p (e ∷ es) go =
+    let before : es ≡ [] = none_for who p es go.2 in
+    let k : None ≡ Some e.call = ap (λ (xs : List StepRec). coming (part_after (part p []) xs)) (sym before) ∙ go.1 in
+    absurd (cc)
 
-commit_leaves : (g : Ground) (who : ℕ) (o : Option (ℕ × List Edit)) (p : Place) (h : List StepRec) → p.draft ≡ o → (commit_done g who o p h).full ≡ false → Leaves Commit p (commit_done g who o p h).place
-commit_leaves g who None p h e not = record { draft = ap (λ (x : Option (ℕ × List Edit)). is_some x) e; held = refl }
-commit_leaves g who (Some d) p h e not = with_room_leaves g 1 h Commit p _ (record { draft = refl; held = refl }) not
+no_lines : (k : ℕ) (ls : List ScriptLine) → AreOfEditors ls → (k < 1) ⊎ (16 < k) → jobs_of k (line_tasks ls) ≡ []
+no_lines k [] o out = refl
+no_lines k (l ∷ ls) o out =
+    ap (λ (b : Bool). cond b (line l.act ∷ jobs_of k (line_tasks ls)) (jobs_of k (line_tasks ls))) (ne_eqb l.editor k (λ e. bad o.0 o.1 e out)) ∙ no_lines k ls o.2 out where
+      bad : 1 ≤ l.editor → l.editor ≤ 16 → l.editor ≡ k → (k < 1) ⊎ (16 < k) → ⊥
+      bad low high e (inl lt) = absurd (omega (arith, low, e, lt))
+      bad low high e (inr lt) = absurd (omega (arith, high, e, lt))
 
-give_leaves : (g : Ground) (who : ℕ) (o : Option (Option ℕ)) (p : Place) (h : List StepRec) → Leaves Give p (give_done g who o p h).place
-give_leaves g who None p h = record { draft = refl; held = refl }
-give_leaves g who (Some None) p h = record { draft = refl; held = refl }
-give_leaves g who (Some (Some n)) p h = record { draft = refl; held = refl }
+-- The lines of a phase, of which nobody had a draft or a claim.
 
-act_leaves : (g : Ground) (who : ℕ) (a : Act) (p : Place) (h : List StepRec) → (act_done g who a p h).full ≡ false → Leaves a p (act_done g who a p h).place
-act_leaves g who Begin p h not = with_room_leaves g 1 h Begin p _ (record { draft = refl; held = refl }) not
-act_leaves g who (Change e) p h not = record { draft = drafted_some e p.draft; held = refl }
-act_leaves g who Commit p h not = commit_leaves g who p.draft p h refl not
-act_leaves g who Publish p h not = with_room_leaves g 1 h Publish p _ (record { draft = refl; held = refl }) not
-act_leaves g who Take p h not = with_room_leaves g 2 h Take p _ (record { draft = refl; held = refl }) not
-act_leaves g who Give p h not = give_leaves g who p.held p h
-act_leaves g who (Work n) p h not =
-    let e : (rounds g who n p h).place ≡ p = rounds_place g who n p h in
-    record { draft = ap (λ (q : Place). is_some q.draft) e; held = ap (λ (q : Place). is_some q.held) e }
+abbrev all_free : ℕ → Place
+all_free k = free
 
-drafting_is : (o : Option DraftView) → is_drafting o ≡ is_some (draft_of o)
-drafting_is None = refl
-drafting_is (Some d) = refl
+record AreMade (lines : List ScriptLine) (old mid : CoreView) : Type 0 where
+  pub entries : List StepRec
+  pub history : mid.history ≡ entries ++ old.history
+  pub room : HasRoom mid.ground mid.history
+  pub each : (k : ℕ) → Goes k (ready free (jobs_of k (line_tasks lines))) (by k entries)
+  pub done : (k : ℕ) → coming (part_after (ready free (jobs_of k (line_tasks lines))) (by k entries)) ≡ None
 
-holding_is : (x : Held) → is_holding x ≡ is_some (held_of x)
-holding_is held.Nothing = refl
-holding_is held.Idle = refl
-holding_is (held.Found f) = refl
+resting : (e : Editor) → (e.held ≡ None) × (e.draft ≡ None) → place_of e ≡ free
+resting e r = λ i. place (draft_of (r.1 i)) (number_of (r.0 i))
 
--- Lines so far.
-
--- Some of all lines were done, and these are left.
-pub record AreLines (begun now : CoreView) (all rest : List ScriptLine) (e : Editor) (before after : List ℕ) : Type 0 where
-  pub ground : now.ground ≡ begun.ground
-  pub works : WorksIn now 1 e
-  pub order : IsOrderly 1 (is_drafting e.draft) (is_holding e.held) rest
-  pub since : IsLater begun.history now.history
-  pub tells : Tells begun now before after
-  pub course : (s : Run) → AtRun s begun free → (t : Run) × AtRun t now (place_of e) × (lines_run begun.ground all s ≡ lines_run begun.ground rest t)
-
-abbrev pub idle_editor : Editor
-idle_editor = record { draft = None; held = held.Nothing }
-
-pub tells_nothing : (core : CoreView) (before : List ℕ) → Tells core core before before
-tells_nothing core before = record { lines = λ e. e; whole = refl; alone = λ o. o }
-
-tells_joined : {a b c : CoreView} {before mid after : List ℕ} → Tells a b before mid → Tells b c mid after → Tells a c before after
-tells_joined x y = record { lines = λ e. y.lines (x.lines e); whole = y.whole ∙ x.whole; alone = λ o. y.alone (x.alone o) }
-
-pub lines_start : {core : CoreView} (lines rest : List ScriptLine) (before : List ℕ) → rest ≡ lines → IsFree core → IsOrderly 1 false false lines → AreLines core core lines rest idle_editor before before
-lines_start {core = core} lines rest before e f order = record {
-  ground = refl;
-  works = record { draft = tt; holds = record { legal = f.legal; ready = tt; out_is = f.none_out } };
-  order = subst (λ (xs : List ScriptLine). IsOrderly 1 false false xs) (sym e) order;
-  since = same core.history;
-  tells = tells_nothing core before;
-  course = λ s a. (s, a, ap (λ (xs : List ScriptLine). lines_run core.ground xs s) (sym e));
-}
-
-order_on : (e f : Editor) (x : ScriptLine) (rest : List ScriptLine) → Leaves x.act (place_of e) (place_of f) → IsOrderly 1 (is_drafting e.draft) (is_holding e.held) (x ∷ rest) → IsOrderly 1 (is_drafting f.draft) (is_holding f.held) rest
-order_on e f x rest k order =
-    let drafts : drafts_after (is_drafting e.draft) x.act ≡ is_drafting f.draft =
-    ap (λ (b : Bool). drafts_after b x.act) (drafting_is e.draft) ∙ sym k.draft ∙ sym (drafting_is f.draft) in
-    let holds : holds_after (is_holding e.held) x.act ≡ is_holding f.held =
-    ap (λ (b : Bool). holds_after b x.act) (holding_is e.held) ∙ sym k.held ∙ sym (holding_is f.held) in
-    subst (λ (b : Bool). IsOrderly 1 b (is_holding f.held) rest) drafts (subst (λ (b : Bool). IsOrderly 1 (drafts_after (is_drafting e.draft) x.act) b rest) holds order.2)
-
--- the run after the line, by what the line leads to
-line_is : (g : Ground) (x : ScriptLine) (t : Run) (k : Ground) (h : List StepRec) (p : Place) → k ≡ g → t.full ≡ false → x.editor ≡ 1 → t.places 1 ≡ p → t.history ≡ h → line_run g x t ≡ moved x.editor t (act_done k 1 x.act p h)
-line_is g x t k h p same_ground going one place_is history =
-    let at : t.places x.editor ≡ p = ap (λ (n : ℕ). t.places n) one ∙ place_is in
-    (λ i. cond (going i) t (moved x.editor t (act_done (sym same_ground i) (one i) x.act (at i) (history i))))
-
-moved_at : (x : ScriptLine) (t : Run) (d : Done) → x.editor ≡ 1 → placed x.editor d.place t.places 1 ≡ d.place
-moved_at x t d one = ap (λ (b : Bool). cond b d.place (t.places 1)) (eq-eqb 1 x.editor (sym one))
-
-pub lines_on : {begun old new : CoreView} {all : List ScriptLine} {e f : Editor} {before mid after : List ℕ} (x : ScriptLine) (rest : List ScriptLine) → AreLines begun old all (x ∷ rest) e before mid → Steps (act_done old.ground 1 x.act (place_of e) old.history) old new mid after (Ok f) → AreLines begun new all rest f before after
-lines_on {begun = begun} {old = old} {new = new} {all = all} {e = e} {f = f} x rest k s =
-    let d : Done = act_done old.ground 1 x.act (place_of e) old.history in
-    let leaves : Leaves x.act (place_of e) (place_of f) = subst (λ (q : Place). Leaves x.act (place_of e) q) s.0.place_is (act_leaves old.ground 1 x.act (place_of e) old.history s.0.not_full) in
-    let grown : IsLater old.history new.history = subst (λ (h : List StepRec). IsLater old.history h) s.0.history (act_grows old.ground 1 x.act (place_of e) old.history) in
+lines_made : {old mid : CoreView} {es fs : List Editor} (lines : List ScriptLine) → HoldNone es → ((b : Course) (since : List StepRec) (rest : List Task) → Stands b since old es (line_tasks lines ++ rest) → Stands b since mid fs rest) →
+    HasRoom old.ground old.history → AreMade lines old mid
+lines_made {old = old} {mid = mid} {es = es} {fs = fs} lines none run room =
+    let c : Course = ready_all all_free (line_tasks lines) in
+    let start : Stands c old.history old es (line_tasks lines ++ []) = record {
+      entries = [];
+      history = refl;
+      places = all_free;
+      course = record { own = tt; at = ap (λ (ts : List Task). ready_all all_free ts) (sym (append-nil (line_tasks lines))) };
+      same = λ k. sym (resting (at es k) (none k));
+      room = room;
+    } in
+    let s : Stands c old.history mid fs [] = run c old.history [] start in
     record {
-      ground = s.0.ground ∙ k.ground;
-      works = s.0.works;
-      order = order_on e f x rest leaves k.order;
-      since = joined begun.history old.history new.history k.since grown;
-      tells = tells_joined k.tells s.1;
-      course = λ r a.
-          let t : Run = (k.course r a).0 in
-          let at : AtRun t old (place_of e) = (k.course r a).1 in
-          let is : line_run begun.ground x t ≡ moved x.editor t d = line_is begun.ground x t old.ground old.history (place_of e) k.ground at.going k.order.0 at.place_is at.history in (
-            line_run begun.ground x t,
-            record {
-              history = ap (λ (u : Run). u.history) is ∙ s.0.history;
-              going = ap (λ (u : Run). u.full) is ∙ s.0.not_full;
-              place_is = ap (λ (u : Run). u.places 1) is ∙ moved_at x t d k.order.0 ∙ s.0.place_is;
-            },
-            (k.course r a).2,
-          );
+      entries = s.entries;
+      history = s.history;
+      room = s.room;
+      each = λ k. let p : Projects k c s.entries = project k c s.entries s.course.own in subst (λ (q : Part). Goes k q (by k s.entries)) (part_ready k all_free (line_tasks lines)) p.goes;
+      done = λ k.
+          let p : Projects k c s.entries = project k c s.entries s.course.own in
+          ap (λ (q : Part). coming (part_after q (by k s.entries))) (sym (part_ready k all_free (line_tasks lines)))
+          ∙ ap (λ (q : Part). coming q) p.part_is
+          ∙ ap (λ (d : Course). coming (part_of k d)) s.course.at;
     }
 
--- Stops.
+apart : (k m : ℕ) → k < m → k ≡ m → ⊥
+apart k m lt e = absurd (omega (arith, lt, e))
 
-line_full : (g : Ground) (x : ScriptLine) (s : Run) → s.full ≡ true → line_run g x s ≡ s
-line_full g x s e = ap (λ (b : Bool). cond b s (moved x.editor s (act_done g x.editor x.act (s.places x.editor) s.history))) e
+pub phase_made : {old mid new : CoreView} {es fs : List Editor} (f : Editor) (lines : List ScriptLine) → AreOfEditors lines → HoldNone es → HasRoom old.ground old.history → Runs {A = Unit {0}} (line_tasks lines) old mid es fs (Ok tt) → Syncs mid new (at fs 0) f → MakesPhase lines old new
+phase_made {old = old} {mid = mid} {new = new} {es = es} {fs = fs} f lines o none room r k =
+    let m : AreMade lines old mid = lines_made lines none r.3 room in
+    let d : List StepRec = k.plays.entries in
+    let q : Part = ready (place_of (at fs 0)) sync_jobs in
+    let start : q ≡ part free sync_jobs = ap (λ (p : Place). ready p sync_jobs) (resting (at fs 0) (r.2 0)) in
+    let alone : by 0 m.entries ≡ [] = none_for 0 free (by 0 m.entries) (subst (λ (js : List Job). Goes 0 (ready free js) (by 0 m.entries)) (no_lines 0 lines o (inl (omega arith))) (m.each 0)) in
+    let of_other : (n : ℕ) → 0 < n → by n (d ++ m.entries) ≡ by n m.entries = λ n lt. by_both n d m.entries ∙ ap (λ (xs : List StepRec). xs ++ by n m.entries) (by_other 0 n q d k.plays.goes (λ e. apart 0 n lt (sym e))) in
+    let none_above : (n : ℕ) → 16 < n → by n (d ++ m.entries) ≡ [] = λ n lt.
+    of_other n (omega (arith, lt)) ∙ none_for n free (by n m.entries) (subst (λ (js : List Job). Goes n (ready free js) (by n m.entries)) (no_lines n lines o (inr lt)) (m.each n)) in
+    record {
+      entries = d ++ m.entries;
+      history = k.plays.history ∙ ap (λ (h : List StepRec). d ++ h) m.history ∙ sym (append_assoc d m.entries old.history);
+      phase = record {
+        drain = d;
+        others = m.entries;
+        split = refl;
+        editors = λ n low high. let is : by n (d ++ m.entries) ≡ by n m.entries = of_other n (omega (arith, low)) in (rw is (m.each n), rw is (m.done n));
+        caller = subst (λ (x : Part). Goes 0 x d) start k.plays.goes;
+        drained = ap (λ (x : Part). coming (part_after x d)) (sym start) ∙ ap (λ (x : Part). coming x) k.plays.after;
+        reported = k.reported;
+        alone = alone;
+        workers = λ n low high. rw (none_above n low) (record { serve = tt; few = omega arith });
+        no_more = λ n lt. none_above n (omega (arith, lt));
+      };
+      no_workers = none_above;
+      room = k.plays.room m.room;
+    }
 
-pub lines_full : (g : Ground) (xs : List ScriptLine) (s : Run) → s.full ≡ true → lines_run g xs s ≡ s
-lines_full g [] s e = refl
-lines_full g (x ∷ xs) s e = ap (λ (t : Run). lines_run g xs t) (line_full g x s e) ∙ lines_full g xs s e
+-- Phases one after the other.
 
-pub sync_full : (g : Ground) (s : Run) → s.full ≡ true → sync_run g s ≡ s
-sync_full g s e = ap (λ (b : Bool). cond b s (moved 0 s (drain_done g s.history))) e
+pub phases_more : (ps : List Phase) (p : Phase) (es fs : List StepRec) → ArePhases ps es → IsPhase p.lines fs → ArePhases (ps ++ p ∷ []) (fs ++ es)
+phases_more [] p es fs a k = ([], fs, ap (λ (xs : List StepRec). fs ++ xs) a ∙ append-nil fs, k, refl)
+phases_more (x ∷ xs) p es fs a k = (fs ++ a.0, a.1, ap (λ (ys : List StepRec). fs ++ ys) a.2 ∙ sym (append_assoc fs a.0 a.1), a.3, phases_more xs p a.0 fs a.4 k)
 
--- a run that goes on drains
-pub sync_on : (g : Ground) (s : Run) → s.full ≡ false → sync_run g s ≡ moved 0 s (drain_done g s.history)
-sync_on g s e = ap (λ (b : Bool). cond b s (moved 0 s (drain_done g s.history))) e
+-- Stopped phases.
 
-pub phases_full : (g : Ground) (ps : List Phase) (s : Run) → s.full ≡ true → phases_run g ps s ≡ s
-phases_full g [] s e = refl
-phases_full g (p ∷ ps) s e =
-    ap (λ (t : Run). phases_run g ps t) (ap (λ (t : Run). sync_run g t) (lines_full g p.lines s e) ∙ sync_full g s e) ∙ phases_full g ps s e
+-- no phase ends among entries of editors, and none among entries without a report
 
-pub if_full : (why : Halt) (d : Done) (whole : Run) (front : List StepRec) → IfFull why d front → (d.full ≡ true → (whole.full ≡ true) × (whole.history ≡ d.history)) → IfFull why (done_of whole) front
-if_full halt.Full d whole front k f = let w : (whole.full ≡ true) × (whole.history ≡ d.history) = f k.0 in (w.0, k.1 ∙ sym w.1)
-if_full halt.Memory d whole front k f = tt
+unended_alone : (es : List StepRec) → by 0 es ≡ [] → filter ends_phase es ≡ []
+unended_alone [] a = refl
+unended_alone (e ∷ es) a = by_actor (e.actor == 0) refl where
+  by_actor : (b : Bool) → (e.actor == 0) ≡ b → filter ends_phase (e ∷ es) ≡ []
+  by_actor true is =
+      let some : e ∷ by 0 es ≡ [] = ap (λ (b : Bool). cond b (e ∷ by 0 es) (by 0 es)) (sym is) ∙ a in
+      absurd (cc)
+  by_actor false is =
+      let rest : by 0 es ≡ [] = ap (λ (b : Bool). cond b (e ∷ by 0 es) (by 0 es)) (sym is) ∙ a in
+      let none : ends_phase e ≡ false = ap (λ (b : Bool). b && is_report e.reply) is in
+      ap (λ (b : Bool). cond b (e ∷ filter ends_phase es) (filter ends_phase es)) none ∙ unended_alone es rest
 
--- a stop on the way to d is one on the way to where d's run leads
-pub stop_later : {begun old new : CoreView} {why : Halt} (d : Done) (whole : Run) → old.ground ≡ begun.ground → IsLater begun.history old.history → IsLater d.history whole.history → (d.full ≡ true → (whole.full ≡ true) × (whole.history ≡ d.history)) → IsStopped why d old new → IsStopped why (done_of whole) begun new
-stop_later {begun = begun} {old = old} {why = why} d whole g since later f k = record {
-  ground = k.ground ∙ g;
-  legal = k.legal;
-  front = k.front;
-  since = joined begun.history old.history k.front since k.since;
-  within = joined k.front d.history whole.history k.within later;
-  at_full = if_full why d whole k.front k.at_full f;
-  back = k.back;
+unended_quiet : (who : ℕ) (es : List StepRec) → AreQuiet who es → filter ends_phase es ≡ []
+unended_quiet who [] q = refl
+unended_quiet who (e ∷ es) q = ap (λ (b : Bool). cond b (e ∷ filter ends_phase es) (filter ends_phase es)) (and_right (e.actor == 0) (is_report e.reply) q.1) ∙ unended_quiet who es q.2
+
+-- as many phases have ended as before
+pub ends_stay : (es h : List StepRec) → filter ends_phase es ≡ [] → ends (es ++ h) ≡ ends h
+ends_stay [] h f = refl
+ends_stay (e ∷ es) h f = by_end (ends_phase e) refl where
+  by_end : (b : Bool) → ends_phase e ≡ b → ends (e ∷ (es ++ h)) ≡ ends h
+  by_end true is = let some : e ∷ filter ends_phase es ≡ [] = ap (λ (b : Bool). cond b (e ∷ filter ends_phase es) (filter ends_phase es)) (sym is) ∙ f in absurd (cc)
+  by_end false is =
+      let rest : filter ends_phase es ≡ [] = ap (λ (b : Bool). cond b (e ∷ filter ends_phase es) (filter ends_phase es)) (sym is) ∙ f in
+      ap (λ (b : Bool). cond b (ends (es ++ h) + 1) (ends (es ++ h))) is ∙ ends_stay es h rest
+
+ends_least : (es h : List StepRec) → ends h ≤ ends (es ++ h)
+ends_least [] h = omega arith
+ends_least (e ∷ es) h =
+    let rest : ends h ≤ ends (es ++ h) = ends_least es h in
+    let one : ends (es ++ h) ≤ ends (e ∷ (es ++ h)) = elim (ends_phase e) as (λ b. ends (es ++ h) ≤ cond b (ends (es ++ h) + 1) (ends (es ++ h))) [ true ↦ omega arith | false ↦ omega arith ] in
+    omega (arith, rest, one)
+
+-- and only then
+unended_by : (es h : List StepRec) → ends (es ++ h) ≡ ends h → filter ends_phase es ≡ []
+unended_by [] h n = refl
+unended_by (e ∷ es) h n = by_end (ends_phase e) refl where
+  by_end : (b : Bool) → ends_phase e ≡ b → filter ends_phase (e ∷ es) ≡ []
+  by_end true is =
+      let more : ends (e ∷ (es ++ h)) ≡ ends (es ++ h) + 1 = ap (λ (b : Bool). cond b (ends (es ++ h) + 1) (ends (es ++ h))) is in
+      let least : ends h ≤ ends (es ++ h) = ends_least es h in
+      absurd (omega (arith, n, more, least))
+  by_end false is =
+      let same : ends (e ∷ (es ++ h)) ≡ ends (es ++ h) = ap (λ (b : Bool). cond b (ends (es ++ h) + 1) (ends (es ++ h))) is in
+      ap (λ (b : Bool). cond b (e ∷ filter ends_phase es) (filter ends_phase es)) is ∙ unended_by es h (sym same ∙ n)
+
+-- Jobs of a phase.
+
+jobs_joined : (k : ℕ) (xs ys : List Task) → jobs_of k (xs ++ ys) ≡ jobs_of k xs ++ jobs_of k ys
+jobs_joined k [] ys = refl
+jobs_joined k (x ∷ xs) ys =
+    ap (λ (js : List Job). cond (x.who == k) (x.job ∷ js) js) (jobs_joined k xs ys)
+    ∙ elim (x.who == k) as (λ b. cond b (x.job ∷ (jobs_of k xs ++ jobs_of k ys)) (jobs_of k xs ++ jobs_of k ys) ≡ cond b (x.job ∷ jobs_of k xs) (jobs_of k xs) ++ jobs_of k ys) [ true ↦ refl | false ↦ refl ]
+
+sync_of : (k : ℕ) → 0 < k → jobs_of k (tasks 0 sync_jobs) ≡ []
+sync_of k lt =
+    let no : (0 == k) ≡ false = ne_eqb 0 k (λ e. apart 0 k lt e) in
+    ap (λ (b : Bool). cond b (sweep ∷ cond b (line Publish ∷ []) []) (cond b (line Publish ∷ []) [])) no
+
+none_above : (k : ℕ) (ls : List ScriptLine) → AreOfEditors ls → 16 < k → phase_jobs k ls ≡ []
+none_above k ls o lt = jobs_joined k (line_tasks ls) (tasks 0 sync_jobs) ∙ (λ i. no_lines k ls o (inr lt) i ++ sync_of k (omega (arith, lt)) i)
+
+-- jobs without a call leave what is held
+part_held : (p : Place) (js : List Job) → (ready p js).place.held ≡ p.held
+part_held p [] = refl
+part_held p (j ∷ js) =
+    elim (next_call j p) as (λ o. (if_called o (part p (j ∷ js)) (ready (quiet_place j p) js)).place.held ≡ p.held) [
+      | Some call ↦ refl
+      | None ↦ part_held (quiet_place j p) js ∙ quiet_held j p
+    ] where
+      quiet_held : (job : Job) (q : Place) → (quiet_place job q).held ≡ q.held
+      quiet_held (line (Change x)) q = refl
+      quiet_held job q = refl
+
+-- the course of tasks that begins here
+start_of : {old : CoreView} {es : List Editor} (ts : List Task) → HoldNone es → HasRoom old.ground old.history → Stands (ready_all all_free ts) old.history old es (ts ++ [])
+start_of {es = es} ts none room = record {
+  entries = [];
+  history = refl;
+  places = all_free;
+  course = record { own = tt; at = ap (λ (xs : List Task). ready_all all_free xs) (sym (append-nil ts)) };
+  same = λ k. sym (resting (at es k) (none k));
+  room = room;
 }
 
-pub lines_stopped : {begun old : CoreView} (new : CoreView) {all : List ScriptLine} {e : Editor} {before mid : List ℕ} (why : Halt) (x : ScriptLine) (rest : List ScriptLine) → AreLines begun old all (x ∷ rest) e before mid → IsStopped why (act_done old.ground 1 x.act (place_of e) old.history) old new →
-    (s : Run) → AtRun s begun free → IsStopped why (done_of (lines_run begun.ground all s)) begun new
-lines_stopped {begun = begun} {old = old} new {all = all} {e = e} why x rest k stop s a =
-    let d : Done = act_done old.ground 1 x.act (place_of e) old.history in
-    let t : Run = (k.course s a).0 in
-    let at : AtRun t old (place_of e) = (k.course s a).1 in
-    let next : Run = line_run begun.ground x t in
-    let is : next ≡ moved x.editor t d = line_is begun.ground x t old.ground old.history (place_of e) k.ground at.going k.order.0 at.place_is at.history in
-    let whole : lines_run begun.ground all s ≡ lines_run begun.ground rest next = (k.course s a).2 in
-    let later : IsLater d.history (lines_run begun.ground rest next).history = subst (λ (h : List StepRec). IsLater h (lines_run begun.ground rest next).history) (ap (λ (u : Run). u.history) is) (lines_grow begun.ground rest next) in
-    let full : d.full ≡ true → ((lines_run begun.ground rest next).full ≡ true) × ((lines_run begun.ground rest next).history ≡ d.history) =
-    λ f.
-    let at_end : lines_run begun.ground rest next ≡ next = lines_full begun.ground rest next (ap (λ (u : Run). u.full) is ∙ f) in
-    (ap (λ (u : Run). u.full) (at_end ∙ is) ∙ f, ap (λ (u : Run). u.history) (at_end ∙ is)) in
-    subst (λ (u : Run). IsStopped why (done_of u) begun new) (sym whole) (stop_later d (lines_run begun.ground rest next) k.ground k.since later full stop)
+-- where the lines were stopped no phase has ended
+pub lines_unended : {A : Type 0} {old new : CoreView} {es fs : List Editor} (lines : List ScriptLine) (why : Halt) → AreOfEditors lines → HoldNone es → HasRoom old.ground old.history → Runs {A = A} (line_tasks lines) old new es fs (Err why) → ends new.history ≡ ends old.history
+lines_unended {old = old} {new = new} {es = es} {fs = fs} lines why o none room r =
+    let c : Course = ready_all all_free (line_tasks lines) in
+    let s : IsStopped c old.history new fs why = r.2 c old.history [] (start_of (line_tasks lines) none room) in
+    let p : Projects 0 c s.entries = project 0 c s.entries s.at_course.own in
+    let goes : Goes 0 (ready free (jobs_of 0 (line_tasks lines))) (by 0 s.entries) = subst (λ (q : Part). Goes 0 q (by 0 s.entries)) (part_ready 0 all_free (line_tasks lines)) p.goes in
+    let alone : by 0 s.entries ≡ [] = none_for 0 free (by 0 s.entries) (subst (λ (js : List Job). Goes 0 (ready free js) (by 0 s.entries)) (no_lines 0 lines o (inl (omega arith))) goes) in
+    ap (λ (h : List StepRec). ends h) s.history ∙ ends_stay s.entries old.history (unended_alone s.entries alone)
 
--- The end.
+-- and none where the caller was stopped behind them
+pub sync_unended : {old mid new : CoreView} {es fs : List Editor} {q : Part} (lines : List ScriptLine) (f : Editor) (why : Halt) → AreOfEditors lines → HoldNone es → HasRoom old.ground old.history → Runs {A = Unit {0}} (line_tasks lines) old mid es fs (Ok tt) → StopsQuietly 0 q mid new f why → ends new.history ≡ ends old.history
+sync_unended {old = old} {mid = mid} lines f why o none room r k =
+    let m : AreMade lines old mid = lines_made lines none r.3 room in
+    let alone : by 0 m.entries ≡ [] = none_for 0 free (by 0 m.entries) (subst (λ (js : List Job). Goes 0 (ready free js) (by 0 m.entries)) (no_lines 0 lines o (inl (omega arith))) (m.each 0)) in
+    ap (λ (h : List StepRec). ends h) k.0.plays.history ∙ ends_stay k.0.plays.entries mid.history (unended_quiet 0 k.0.plays.entries k.1)
+    ∙ ap (λ (h : List StepRec). ends h) m.history ∙ ends_stay m.entries old.history (unended_alone m.entries alone)
 
-tells_same : {a b c : CoreView} {before after : List ℕ} → c.ground ≡ b.ground → c.history ≡ b.history → Tells a b before after → Tells a c before after
-tells_same {b = b} {c = c} g h k = record {
-  lines = λ e. k.lines e ∙ (λ i. (told (sym g i) (sym h i)).lines);
-  whole = (λ i. (told (g i) (h i)).whole) ∙ k.whole;
-  alone = λ o. subst (λ (xs : List StepRec). is_of_one_editor xs ≡ true) (sym h) (k.alone o);
+pub phase_stopped : {A : Type 0} {old : CoreView} (new : CoreView) {es : List Editor} (fs : List Editor) (lines : List ScriptLine) (why : Halt) → AreOfEditors lines → HoldNone es → HasRoom old.ground old.history → Runs {A = A} (line_tasks lines ++ tasks 0 sync_jobs) old new es fs (Err why) → ends new.history ≡ ends old.history → StopsPhase lines old new fs
+phase_stopped {old = old} new {es = es} fs lines why o none room r n =
+    let ts : List Task = line_tasks lines ++ tasks 0 sync_jobs in
+    let c : Course = ready_all all_free ts in
+    let s : IsStopped c old.history new fs why = r.2 c old.history [] (start_of ts none room) in
+    let goes : (k : ℕ) → Goes k (ready free (phase_jobs k lines)) (by k s.entries) =
+    λ k. let p : Projects k c s.entries = project k c s.entries s.at_course.own in subst (λ (q : Part). Goes k q (by k s.entries)) (part_ready k all_free ts) p.goes in
+    record {
+      made = s.entries;
+      history = s.history;
+      each = λ k le. goes k;
+      holds = λ k le.
+          let p : Projects k c s.entries = project k c s.entries s.at_course.own in
+          ap (λ (q : Part). (part_after q (by k s.entries)).place.held) (sym (part_ready k all_free ts))
+          ∙ ap (λ (q : Part). q.place.held) p.part_is
+          ∙ ap (λ (d : Course). (part_of k d).place.held) s.at_course.at
+          ∙ part_held (s.course.places k) (jobs_of k s.course.todo)
+          ∙ s.holds k;
+      unreported = unended_by s.entries old.history (ap (λ (h : List StepRec). ends h) (sym s.history) ∙ n);
+      no_workers = λ k lt. none_for k free (by k s.entries) (subst (λ (js : List Job). Goes k (ready free js) (by k s.entries)) (none_above k lines o lt) (goes k));
+    }
+
+-- nothing was done, or memory was wanting at once
+pub phase_unbegun : {core : CoreView} {es : List Editor} (lines : List ScriptLine) → AreOfEditors lines → HoldNone es → StopsPhase lines core core es
+phase_unbegun {es = es} lines o none = record {
+  made = [];
+  history = refl;
+  each = λ k le. tt;
+  holds = λ k le. part_held free (phase_jobs k lines) ∙ sym (ap (λ (p : Place). p.held) (resting (at es k) (none k)));
+  unreported = refl;
+  no_workers = λ k lt. refl;
 }
 
-at_rest : (e : Editor) → is_drafting e.draft ≡ false → is_holding e.held ≡ false → place_of e ≡ free
-at_rest e a b = (λ i. place (no_draft e.draft a i) (held_of (nothing e.held b i))) where
-  no_draft : (o : Option DraftView) → is_drafting o ≡ false → draft_of o ≡ None
-  no_draft None e = refl
-  no_draft (Some d) e = absurd (cc)
+-- What is told where no phase ends.
 
-pub lines_end : {begun old new : CoreView} {all : List ScriptLine} {e : Editor} {before after : List ℕ} (rest : List ScriptLine) → rest ≡ [] → AreLines begun old all rest e before after → IsReturned old new →
-    (s : Run) → AtRun s begun free → IsReached (lines_run begun.ground all s) begun new × Tells begun new before after
-lines_end {begun = begun} {old = old} {new = new} {all = all} {e = e} rest none k r s a =
-    let order : IsOrderly 1 (is_drafting e.draft) (is_holding e.held) [] = subst (λ (xs : List ScriptLine). IsOrderly 1 (is_drafting e.draft) (is_holding e.held) xs) none k.order in
-    let f : IsFree old = holds_nothing e.held (nothing e.held order.1) k.works.holds in
-    let same_history : new.history ≡ old.history = r.history ∙ ap (λ (cs : List Given). returns cs ++ old.history) f.none_out in
-    let t : Run = (k.course s a).0 in
-    let at : AtRun t old (place_of e) = (k.course s a).1 in
-    let whole : lines_run begun.ground all s ≡ t = (k.course s a).2 ∙ ap (λ (xs : List ScriptLine). lines_run begun.ground xs t) none in (
+pub record StaysSo (g : Ground) (h k : List StepRec) : Type 0 where
+  pub whole : (all_told g k).whole ≡ (all_told g h).whole
+  pub reports_are : reports g k ≡ reports g h
+
+pub stays_told : (g : Ground) (es h : List StepRec) → filter ends_phase es ≡ [] → StaysSo g h (es ++ h)
+stays_told g [] h f = record { whole = refl; reports_are = refl }
+stays_told g (e ∷ es) h f = by_end (ends_phase e) refl where
+  by_end : (b : Bool) → ends_phase e ≡ b → StaysSo g h (e ∷ (es ++ h))
+  by_end true is = let some : e ∷ filter ends_phase es ≡ [] = ap (λ (b : Bool). cond b (e ∷ filter ends_phase es) (filter ends_phase es)) (sym is) ∙ f in absurd (cc)
+  by_end false is =
+      let rest : filter ends_phase es ≡ [] = ap (λ (b : Bool). cond b (e ∷ filter ends_phase es) (filter ends_phase es)) (sym is) ∙ f in
+      let k : StaysSo g h (es ++ h) = stays_told g es h rest in
       record {
-        ground = r.ground ∙ k.ground;
-        at = record {
-          history = ap (λ (u : Run). u.history) whole ∙ at.history ∙ sym same_history;
-          going = ap (λ (u : Run). u.full) whole ∙ at.going;
-          place_is = ap (λ (u : Run). u.places 1) whole ∙ at.place_is ∙ at_rest e order.0 order.1;
-        };
-        free = record { legal = r.legal; none_out = ap (λ (h : List StepRec). out h) same_history ∙ f.none_out };
-      },
-      tells_same r.ground same_history k.tells,
-    )
-
--- the next line is taken from the end of the turned list
-pub next_line : {begun now : CoreView} {all : List ScriptLine} {e : Editor} {before after : List ℕ} (turned xs : List ScriptLine) (x : ScriptLine) → turned ≡ xs ++ x ∷ [] → AreLines begun now all (reverse turned) e before after → AreLines begun now all (x ∷ reverse xs) e before after
-next_line {begun = begun} {now = now} {all = all} {e = e} {before = before} {after = after} turned xs x is k =
-    subst (λ (rest : List ScriptLine). AreLines begun now all rest e before after) (ap (λ (ys : List ScriptLine). reverse ys) is ∙ reverse-append xs (x ∷ [])) k
+        whole = ap (λ (t : Texts). t.whole) (told_line g e (es ++ h) is) ∙ k.whole;
+        reports_are = ap (λ (b : Bool). cond b (reports g (es ++ h) ++ report_by g (e ∷ (es ++ h)) e.reply) (reports g (es ++ h))) is ∙ k.reports_are;
+      }

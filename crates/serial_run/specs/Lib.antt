@@ -1,11 +1,7 @@
-pub mod Growth
-pub mod Editing
-pub mod Course
-pub mod Turns
 pub mod Lines
-pub mod Steps
+pub mod Editors
+pub mod Plays
 pub mod Running
+pub mod Buffers
+pub mod Phases
 pub mod Runs
-pub mod Quiet
-pub mod Phased
-pub mod Stopped

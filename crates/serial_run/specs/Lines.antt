@@ -1,5 +1,5 @@
 -- The lines of entries, without the reports that may follow them. Histories stand here with the newest entry first.
-use Rattle.std.specs.Prelude.{ℕ, List, [], ◌∷◌, ◌++◌, codes, flat_map}
+use Rattle.std.specs.Prelude.{ℕ, List, ◌++◌, codes, flat_map}
 use Rattle.std.specs.Fmt.{decimal}
 use Rattle.audit_model.specs.declared.step.Limits.{Limits}
 use Rattle.audit_model.specs.declared.step.StepRec.{StepRec}

@@ -1,92 +1,109 @@
--- What the lines of a phase, a drain, and a phase leave. Histories stand here with the newest entry first.
-use Rattle.std.specs.Prelude.{◌≡◌, ℕ, Bool, true, false, List, [], ◌∷◌, ◌++◌, Result, Ok, Err}
-use Rattle.ifc_base.specs.declared.value.Instance.{Instance}
-use Rattle.audit_model.specs.Report.{audit_text}
+-- How far the script has come at run time.
+use Rattle.std.specs.Prelude.{◌≡◌, ℕ, zero, suc, Bool, true, false, List, [], ◌∷◌, ◌++◌, length, slice_index_or, Option, Some, None, Result, Ok, Err}
+use Rattle.audit_model.specs.declared.step.Call.{Call}
+use Rattle.audit_model.specs.declared.step.Call.TheVariants as calls
+use Rattle.audit_model.specs.declared.step.Reply.TheVariants as replies
+use Rattle.audit_model.specs.declared.step.StepRec.{StepRec}
+use Rattle.audit_model.specs.declared.script.Act.{Act}
+use Rattle.audit_model.specs.declared.script.Act.TheVariants.{Take, Work}
 use Rattle.audit_model.specs.Models.{IsModel}
 use Rattle.audit_model.specs.Pairs.{NumberedFrom}
 use Rattle.audit_model.specs.History.{Ground}
-use Rattle.audit_model.specs.declared.step.StepRec.{StepRec}
-use Rattle.script_rules.specs.Output.{ends_phase}
-use Rattle.script_rules.specs.ScriptLines.{Place, free}
-use Rattle.script_rules.specs.Serial.{Done, Run}
-use Rattle.script_rules.specs.Telling.{told, is_of_one_editor}
+use Rattle.audit_model.specs.Machine.{publish_reply}
+use Rattle.script_rules.specs.ScriptLines.{entry}
 use Rattle.model_view.specs.declared.answers.Halt.{Halt}
 use Rattle.audit_core.specs.Cores.{CoreView}
 use Rattle.serial_run.specs.declared.editor.Editor.{Editor}
-use Rattle.serial_run.specs.Course.{IsDone, IsStopped}
-use Rattle.serial_run.specs.Turns.{IsFree}
+use Rattle.script_rules.specs.Course.{Place, part, ready}
+use Rattle.script_rules.specs.Script.{Task, Course, sync_jobs, ready_all, turn, HasRoom, IsAt}
+use Rattle.script_rules.specs.Phased.{EndsReported}
+use Rattle.serial_run.specs.Editors.{Works, number_of, place_of}
+use Rattle.serial_run.specs.Plays.{Plays, PlaysQuietly, Stops, StopsQuietly, IfFull}
 
--- The lines of the phase were told as `before`, and are told as `after` now. The text of the whole phases is as it was, and all
--- entries are still of actor 0 and editor 1.
-pub record Tells (old new : CoreView) (before after : List ℕ) : Type 0 where
-  pub lines : before ≡ (told old.ground old.history).lines → after ≡ (told new.ground new.history).lines
-  pub whole : (told new.ground new.history).whole ≡ (told old.ground old.history).whole
-  pub alone : is_of_one_editor old.history ≡ true → is_of_one_editor new.history ≡ true
+-- Actors by their numbers: the caller, and then the editors.
 
-abbrev pub Steps : Done → CoreView → CoreView → List ℕ → List ℕ → Result Editor Halt → Type 0
-Steps d old new before after (Ok e) = IsDone d old new 1 e × Tells old new before after
-Steps d old new before after (Err why) = IsStopped why d old new
+abbrev pub idle_editor : Editor
+idle_editor = record { draft = None; held = None }
 
--- The run of a script has come to this core: it has its history, goes on, and editor 1 is at this place.
-pub record AtRun (s : Run) (core : CoreView) (p : Place) : Type 0 where
-  pub history : s.history ≡ core.history
-  pub going : s.full ≡ false
-  pub place_is : s.places 1 ≡ p
+abbrev pub at : List Editor → ℕ → Editor
+at es k = slice_index_or es k idle_editor
 
--- a run as the end of a course
-abbrev pub done_of : Run → Done
-done_of s = record { history = s.history; place = free; full = s.full }
+-- what each actor has is as the history has it
+pub record AreEditors (core : CoreView) (es : List Editor) : Type 0 where
+  pub count : length es ≡ 17
+  pub each : (k : ℕ) → Works core k (at es k)
 
--- the run of the script, s, has come to the core, and no claim is out
-pub record IsReached (s : Run) (old new : CoreView) : Type 0 where
-  pub ground : new.ground ≡ old.ground
-  pub at : AtRun s new free
-  pub free : IsFree new
+-- nobody holds a claim or has a draft
+abbrev pub HoldNone : List Editor → Type 0
+HoldNone es = (k : ℕ) → ((at es k).held ≡ None) × ((at es k).draft ≡ None)
 
--- The lines of a phase were done and told; or the run was stopped.
-abbrev pub LeavesLinesTold : {A : Type 0} → Run → CoreView → CoreView → List ℕ → List ℕ → Result A Halt → Type 0
-LeavesLinesTold s old new before after (Ok done) = IsReached s old new × Tells old new before after
-LeavesLinesTold s old new before after (Err why) = IsStopped why (done_of s) old new
+-- Behind the history `since` the course has gone on so far: these tasks are still to do, and each actor has what its place says.
+pub record Stands (begun : Course) (since : List StepRec) (core : CoreView) (es : List Editor) (todo : List Task) : Type 0 where
+  pub entries : List StepRec
+  pub history : core.history ≡ entries ++ since
+  pub places : ℕ → Place
+  pub course : IsAt begun entries (ready_all places todo)
+  pub same : (k : ℕ) → places k ≡ place_of (at es k)
+  pub room : HasRoom core.ground core.history
+
+abbrev pub call_of : Option (ℕ × Call) → Option Call
+call_of None = None
+call_of (Some t) = Some t.1
+
+-- Behind the history `since` the course was stopped so far. Each actor still holds what it holds by it.
+pub record IsStopped (begun : Course) (since : List StepRec) (core : CoreView) (es : List Editor) (why : Halt) : Type 0 where
+  pub entries : List StepRec
+  pub history : core.history ≡ entries ++ since
+  pub course : Course
+  pub at_course : IsAt begun entries course
+  pub holds : (k : ℕ) → (course.places k).held ≡ number_of (at es k).held
+  pub room : HasRoom core.ground core.history
+  pub full : IfFull why core (call_of (turn course))
+
+-- These tasks were done; or the script was stopped in them.
+abbrev pub Runs : {A : Type 0} → List Task → CoreView → CoreView → List Editor → List Editor → Result A Halt → Type 0
+Runs todo old new es fs (Ok x) =
+    (new.ground ≡ old.ground) × AreEditors new fs × HoldNone fs
+    × ((begun : Course) (since : List StepRec) (rest : List Task) → Stands begun since old es (todo ++ rest) → Stands begun since new fs rest)
+Runs todo old new es fs (Err why) =
+    (new.ground ≡ old.ground) × AreEditors new fs
+    × ((begun : Course) (since : List StepRec) (rest : List Task) → Stands begun since old es (todo ++ rest) → IsStopped begun since new fs why)
+
+-- Lines.
+
+-- a line that wants empty hands
+abbrev pub wants_free : Act → Bool
+wants_free Take = true
+wants_free (Work n) = true
+wants_free act = false
+
+-- The end of a phase.
 
 -- what a core of this ground needs so that a drain ends with a report
 pub record IsSound (g : Ground) : Type 0 where
   pub numbered : NumberedFrom 1 g.specs
   pub ascending : IsModel g.first
 
--- the last entry ends a phase
-abbrev pub ends_now : List StepRec → Bool
-ends_now [] = false
-ends_now (e ∷ h) = ends_phase e
+pub record Sweeps (old new : CoreView) (e f : Editor) : Type 0 where
+  pub plays : PlaysQuietly 0 (ready (place_of e) sync_jobs) old new (part (place_of f) (Rattle.script_rules.specs.Course.line Rattle.audit_model.specs.declared.script.Act.TheVariants.Publish ∷ []))
+  pub works : Works new 0 f
+  pub none : f.held ≡ None
+  pub draft : f.draft ≡ e.draft
+  pub report : ℕ
+  pub comes : replies.Report report ≡ publish_reply new.ground new.history
 
--- The phase ends with this report, the audit from scratch of some revision: its text follows on the lines.
-pub record IsReported (old new : CoreView) (report : List ℕ) : Type 0 where
-  pub model : List Instance
-  pub revision : ℕ
-  pub report_is : report ≡ audit_text old.ground.schema old.ground.specs model revision
-  pub whole : (told new.ground new.history).whole ≡ (told old.ground old.history).whole ++ (told old.ground old.history).lines ++ report
-  pub lines : (told new.ground new.history).lines ≡ []
-  pub alone : is_of_one_editor old.history ≡ true → is_of_one_editor new.history ≡ true
-  pub ended : ends_now new.history ≡ true
+-- All was claimed and delivered; or the caller was stopped.
+abbrev pub LeavesSweep : {A : Type 0} → CoreView → CoreView → Editor → Editor → Result A Halt → Type 0
+LeavesSweep old new e f (Ok x) = Sweeps old new e f
+LeavesSweep old new e f (Err why) = StopsQuietly 0 (ready (place_of e) sync_jobs) old new f why
 
-abbrev pub Drains : Done → CoreView → CoreView → Result (List ℕ) Halt → Type 0
-Drains d old new (Ok report) =
-    (d.history ≡ new.history) × (d.full ≡ false) × (new.ground ≡ old.ground) × IsFree new × IsReported old new report
-Drains d old new (Err why) = IsStopped why d old new
+pub record Syncs (old new : CoreView) (e f : Editor) : Type 0 where
+  pub plays : Plays 0 (ready (place_of e) sync_jobs) old new (part (place_of f) [])
+  pub works : Works new 0 f
+  pub none : f.held ≡ None
+  pub draft : f.draft ≡ e.draft
+  pub reported : EndsReported plays.entries
 
--- The phase has this text: the lines and the report, where no line was told before it.
-pub record IsPhase (s : Run) (old new : CoreView) (text : List ℕ) : Type 0 where
-  pub reached : IsReached s old new
-  pub lines : List ℕ
-  pub report : List ℕ
-  pub text_is : text ≡ lines ++ report
-  pub model : List Instance
-  pub revision : ℕ
-  pub report_is : report ≡ audit_text old.ground.schema old.ground.specs model revision
-  pub whole : (told old.ground old.history).lines ≡ [] → (told new.ground new.history).whole ≡ (told old.ground old.history).whole ++ text
-  pub none : (told new.ground new.history).lines ≡ []
-  pub ended : ends_now new.history ≡ true
-  pub alone : is_of_one_editor old.history ≡ true → is_of_one_editor new.history ≡ true
-
-abbrev pub Phases : Run → CoreView → CoreView → Result (List ℕ) Halt → Type 0
-Phases s old new (Ok text) = IsPhase s old new text
-Phases s old new (Err why) = IsStopped why (done_of s) old new
+abbrev pub LeavesSync : {A : Type 0} → CoreView → CoreView → Editor → Editor → Result A Halt → Type 0
+LeavesSync old new e f (Ok x) = Syncs old new e f
+LeavesSync old new e f (Err why) = StopsQuietly 0 (ready (place_of e) sync_jobs) old new f why

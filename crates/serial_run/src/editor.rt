@@ -1,34 +1,26 @@
-ghost use Rattle.serial_run.specs.Editing.{HoldsIn};
-ghost use Rattle.serial_run.specs.Course.{IsReturned};
+ghost use Rattle.std.specs.Prelude.{◌≡◌, None, Some};
 
-use audit_core::Core;
-use model_view::{Draft, Finding};
+use model_view::{Claim, Draft};
 
-/// What an editor has between two lines of a script. It must be spent.
+/// What an actor of a script has between two of its calls. It must be spent.
+///
+/// A claim is held as it was given, and evaluated when it is delivered. It carries the snapshot of its own
+/// revision, so what is found of it, the entry of the delivery and its line are the same as if it had been
+/// evaluated at once.
 pub struct Editor {
     /// The draft that is open.
     pub draft: Option<Draft>,
-    pub held: Held,
+    /// The claim that is held.
+    pub held: Option<Claim>,
 }
 
-/// What a `take` left in an editor's hands. It must be spent.
-pub enum Held {
-    /// Nothing was taken.
-    Nothing,
-    /// The claim was answered `Idle`.
-    Idle,
-    /// What was found of the pair that was claimed.
-    Found(Finding),
-}
-
-/// Gives the claim back that is held, if there is one. It takes no memory.
-pub fn let_go(core: &mut Core, who: u32, held: Held)
-    requires { HoldsIn core.old who held }
-    ensures { IsReturned core.old core.new }
+/// Holds the claim, where none is held.
+pub fn hold(held: &mut Option<Claim>, claim: Claim)
+    requires { held.old ≡ None }
+    ensures { held.new ≡ Some claim }
 {
-    match held {
-        Held::Nothing => {}
-        Held::Idle => {}
-        Held::Found(finding) => core.give_back(who, finding.into_claim()),
+    match held.replace(claim) {
+        None => {}
+        Some(other) => other.end(),
     }
 }

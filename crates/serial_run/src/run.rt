@@ -1,21 +1,30 @@
 //! A whole run of a script on a core.
-ghost use Rattle.std.specs.Prelude.{◌≡◌, ◌+◌, ℕ, [], if◌then◌else◌, length, reverse};
-ghost use Rattle.audit_model.specs.Machine.{Legal};
-ghost use Rattle.script_rules.specs.Output.{output};
-ghost use Rattle.script_rules.specs.ScriptOrder.{AreOrderly};
-ghost use Rattle.script_rules.specs.Serial.{serial};
+ghost use Rattle.std.specs.Prelude.{◌≡◌, ◌∷◌, ◌+◌, ℕ, List, [], if◌then◌else◌, length, IfOk, IfErr};
+ghost use Rattle.audit_model.specs.declared.script.Phase.{Phase};
+ghost use Rattle.audit_model.specs.History.{Ground};
 ghost use Rattle.audit_model.specs.Specifications.{AreSpecifications};
-ghost use Rattle.serial_run.specs.Running.{IsSound};
+ghost use Rattle.script_rules.specs.Order.{AreOrderly, IsOrderlyPhase};
+ghost use Rattle.script_rules.specs.Output.{output};
+ghost use Rattle.script_rules.specs.Serial.{serial};
+ghost use Rattle.serial_run.specs.Editors.{IsHeld};
+ghost use Rattle.serial_run.specs.Phases.{IsReady};
+ghost use Rattle.serial_run.specs.Running.{AreEditors, IsSound};
+ghost use Rattle.serial_run.specs.Runs.{AreIdle, ComesOn, GivesBack, HasCome, IsJournal, IsReturned};
 ghost use Rattle.serial_run.specs.Runs.{IsFinished, IsRan, IsWritten, ends_pass};
 ghost use Rattle.serial_run.specs.declared.run.End.TheVariants as ending;
 
-use crate::phases::phase;
+use crate::editor::Editor;
+use crate::phases::{PhaseText, phase};
 use audit_core::{Core, CoreJournal};
-use audit_model::{Limits, Phases};
-use model_view::{Assess, Halt};
-use script_rules::{output_is_told, serial_is_legal};
+use audit_model::{Limits, Phase, Phases};
+use ifc_base::Memory;
+use model_view::{Assess, Claim, Halt};
+use script_rules::{output_grows, output_is_told};
 use shelf_io::{Sink, write_all};
 use std::alloc::Global;
+
+/// How many actors a script has: the caller, and 16 editors.
+const ACTORS: u32 = 17;
 
 /// How a run of a script ended.
 #[derive(Clone, Copy, Debug, PartialEq, Eq)]
@@ -39,13 +48,124 @@ pub struct Ran {
     pub journal: CoreJournal,
 }
 
-/// Runs the phases of a script on a core that has no entries yet, and writes the text of each phase
-/// once it is whole: the lines of its editor and the report. All lines have to be of editor 1, and in
-/// an order in which they may come.
+/// A run of a script, phase by phase. It must be ended.
+pub struct SerialRun<'a> {
+    /// The core that the script is run on.
+    pub core: Core<'a>,
+    /// What each actor has, by its number: the caller is 0, and the editors are 1 to 16.
+    pub editors: Vec<Editor>,
+}
+
+impl<'a> SerialRun<'a> {
+    /// A run on a core that has no entries yet. For want of memory its journal comes back, without an
+    /// entry.
+    pub fn new(alloc: Global, core: Core<'a>) -> Result<SerialRun<'a>, CoreJournal>
+        requires { core.history ≡ [] }
+        ensures come { IfOk result (λ run. (phases : List Phase) → AreOrderly phases →
+            HasCome core.entry.ground phases phases run.core run.editors.items) }
+        ensures journal { IfErr result (λ journal. journal ≡ []) }
+    {
+        match idle_editors(alloc) {
+            Ok(editors) => Ok(SerialRun { core, editors }),
+            Err(_) => Err(core.into_journal()),
+        }
+    }
+
+    /// The next phase: its lines in their order, each by its editor, and then the sweep and the report of
+    /// the caller. It answers the text of the phase. After a refusal the script is stopped, and the run is
+    /// to be ended.
+    ///
+    /// Cost: that of the calls of the core, and `O(t)` for a text of `t` bytes.
+    pub fn phase<E: Assess>(
+        &mut self,
+        alloc: Global,
+        evaluator: &E,
+        limits: &Limits,
+        phase: Phase,
+    ) -> Result<PhaseText, Halt>
+        requires ready { IsReady self.old.core self.old.editors.items }
+        requires order { IsOrderlyPhase phase.lines }
+        requires sound { IsSound self.old.core.ground }
+        requires schema { E.schema evaluator.now ≡ self.old.core.ground.schema }
+        requires specs { E.specs evaluator.now ≡ self.old.core.ground.specs }
+        requires specifications { AreSpecifications (E.specs evaluator.now) }
+        requires limits { limits.now ≡ self.old.core.ground.limits }
+        ensures { (g : Ground) (all rest : List Phase) → HasCome g all (phase ∷ rest) self.old.core self.old.editors.items →
+            ComesOn g all rest self.old.core self.new.core self.new.editors.items result }
+    {
+        crate::phases::phase(
+            alloc,
+            &mut self.core,
+            evaluator,
+            limits,
+            &mut self.editors,
+            phase,
+        )
+    }
+
+    /// Ends the run: each actor gives back the claim that it holds, the last editor first and the caller
+    /// last. It takes no memory.
+    pub fn end(self) -> CoreJournal
+        requires { AreEditors self.core self.editors.items }
+        ensures { IsJournal self.entry.core self.entry.editors.items result }
+    {
+        let SerialRun { core, editors } = self;
+        let mut core = core;
+        give_all_back(&mut core, editors);
+        core.into_journal()
+    }
+}
+
+/// The caller and the editors, who have nothing yet.
+fn idle_editors(alloc: Global) -> Result<Vec<Editor>, Memory>
+    ensures { IfOk result (λ editors. AreIdle editors.items) }
+{
+    let mut editors = Vec::with_capacity(alloc, ACTORS as usize)?;
+    for _ in 0..ACTORS {
+        editors.push_reserved(Editor {
+            draft: None,
+            held: None,
+        });
+    }
+    Ok(editors)
+}
+
+/// Gives the claim back that an actor holds, if there is one.
+fn let_go(core: &mut Core, who: u32, held: Option<Claim>)
+    requires { IsHeld core.old.ground core.old.history who held }
+    ensures { GivesBack core.old core.new who held }
+{
+    match held {
+        Some(claim) => core.give_back(who, claim),
+        None => {}
+    }
+}
+
+/// Gives back what each actor holds, the last editor first and the caller last. It takes no memory.
+fn give_all_back(core: &mut Core, editors: Vec<Editor>)
+    requires { AreEditors core.old editors.items }
+    ensures { IsReturned core.old core.new editors.items }
+{
+    let mut editors = editors;
+    let mut who = ACTORS;
+    while let Some(editor) = editors.pop() {
+        let Editor {
+            draft: _draft,
+            held,
+        } = editor;
+        who -= 1;
+        let_go(core, who, held);
+    }
+    editors.destroy_empty();
+}
+
+/// Runs the phases of a script on a core that has no entries yet, and writes the text of each phase once
+/// it is whole: the lines of the editors, one editor after the other, and the report. The lines of each
+/// editor have to be in an order in which they may come.
 ///
-/// The journal is the history that the definitions give to the script; where the run was stopped, a
-/// front of it, and behind it the return of each claim that was out. Cost: that of the calls of the
-/// core, and `O(t)` for a text of `t` bytes.
+/// The journal is the history that the definitions give to the script; where the run was stopped, a front
+/// of it, and behind it the return of each claim that was held. Cost: that of the calls of the core, and
+/// `O(t)` for a text of `t` bytes.
 pub fn run_script<E: Assess, K: Sink>(
     alloc: Global,
     core: Core,
@@ -56,7 +176,7 @@ pub fn run_script<E: Assess, K: Sink>(
 ) -> Ran
     requires fresh { core.history ≡ [] }
     requires sound { IsSound core.ground }
-    requires order { AreOrderly 1 phases }
+    requires order { AreOrderly phases }
     requires schema { E.schema evaluator.now ≡ core.ground.schema }
     requires specs { E.specs evaluator.now ≡ core.ground.specs }
     requires specifications { AreSpecifications (E.specs evaluator.now) }
@@ -68,33 +188,41 @@ pub fn run_script<E: Assess, K: Sink>(
         IsWritten result.end }
 {
     output_is_told();
-    serial_is_legal();
-    let mut core = core;
+    output_grows();
+    let mut run = match SerialRun::new(alloc, core) {
+        Ok(run) => run,
+        Err(journal) => {
+            return Ran {
+                end: End::Memory,
+                journal,
+            };
+        }
+    };
     let mut passed = false;
     let mut rest = phases.into_vec();
     rest.reverse();
     while let Some(next) = rest.pop() {
-        match phase(alloc, &mut core, evaluator, limits, next) {
-            Err(Halt::Full) => return ended(core, End::Full),
-            Err(Halt::Memory) => return ended(core, End::Memory),
-            Ok(text) => match write_all(out, text.as_slice()) {
-                Ok(()) => passed = ends_pass(text.as_slice()),
-                Err(_) => return ended(core, End::Unwritten),
+        match run.phase(alloc, evaluator, limits, next) {
+            Err(Halt::Full) => return ended(run, End::Full),
+            Err(Halt::Memory) => return ended(run, End::Memory),
+            Ok(told) => match write_all(out, told.text.as_slice()) {
+                Ok(()) => passed = ends_pass(told.text.as_slice()),
+                Err(_) => return ended(run, End::Unwritten),
             },
         }
     }
-    ended(core, end_of(passed))
+    ended(run, end_of(passed))
 }
 
-/// The journal of the core, and how the run ended.
-fn ended(core: Core, end: End) -> Ran
+/// The journal of the run, and how it ended.
+fn ended(run: SerialRun, end: End) -> Ran
+    requires { AreEditors run.core run.editors.items }
     ensures end { result.end ≡ end }
-    ensures journal { result.journal ≡ reverse core.entry.history }
-    ensures legal { Legal core.entry.ground core.entry.history }
+    ensures journal { IsJournal run.entry.core run.entry.editors.items result.journal }
 {
     Ran {
         end,
-        journal: core.into_journal(),
+        journal: run.end(),
     }
 }
 

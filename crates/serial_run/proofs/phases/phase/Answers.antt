@@ -1,45 +1,86 @@
-use Rattle.std.proofs.Common.{◌≡◌, ◌∙◌, ap, ◌++◌, ℕ, List}
+use Rattle.std.proofs.Common.{◌++◌, arith, List, ℕ, Ok, Err, inl, inr, refl}
 use Rattle.std.proofs.lemmas.Result.{err_from_is_err_and}
-use Rattle.script_rules.specs.Serial.{lines_run}
-use Rattle.serial_run.proofs.Growing.{lines_grow}
-use Rattle.serial_run.proofs.Ending.{any_run, at_any, stopped_in_lines, stopped_in_drain, phase_done, phase_unmade}
+use Rattle.serial_run.specs.declared.phases.PhaseText.{PhaseText}
+use Rattle.script_rules.specs.Told.{in_order}
+use Rattle.serial_run.specs.Buffers.{buffer_at}
+use Rattle.script_rules.specs.Script.{line_tasks, tasks, sync_jobs}
+use Rattle.serial_run.proofs.Standing.{runs_stopped, phase_is, none_out, elem_is}
+use Rattle.serial_run.proofs.Phasing.{phase_made, phase_stopped, phase_unbegun, lines_unended, sync_unended}
+use Rattle.serial_run.proofs.Buffering.{phase_told, stopped_here, runs_unmade}
 use Rattle.serial_run.proofs.phases.phase.Goals as goal
 
-pub returns-in_err-lines : goal.returns-in_err-lines
-returns-in_err-lines g c =
+pub returns-in_default-clause-runs : goal.returns-in_default-clause-runs
+returns-in_default-clause-runs g c = (refl, c.requires.ready.editors, λ b since rest s. stopped_here ((line_tasks c.args.phase.lines ++ tasks 0 sync_jobs) ++ rest) s)
+
+pub returns-in_default-clause-leaves : goal.returns-in_default-clause-leaves
+returns-in_default-clause-leaves g c = inl (phase_unbegun c.args.phase.lines c.requires.order.editors c.requires.ready.none)
+
+pub returns-in_err-lines-clause-runs : goal.returns-in_err-lines-clause-runs
+returns-in_err-lines-clause-runs g c =
     let p = err_from_is_err_and c.from_residual.result c.from_residual.ensures.1 in
-    let core = c.args.core.now in
-    λ s a. rw (p.1, p.2) (stopped_in_lines c.lines.new.core c.in_err-lines.field-0.0 (lines_run core.ground c.args.phase.lines s) (rw (← a.history) (lines_grow core.ground c.args.phase.lines s)) (c.in_err-lines.ensures s a))
+    rw (p.1, p.2) (runs_stopped (Unit {0}) PhaseText c.lines.new.core c.lines.new.editors.items (line_tasks c.args.phase.lines) (tasks 0 sync_jobs) c.in_err-lines.field-0.0 c.in_err-lines.ensures.runs)
 
-pub drain-requires-clause-free : goal.drain-requires-clause-free
-drain-requires-clause-free g c = (c.in_ok-lines.ensures (any_run c.args.core.now) (at_any c.args.core.now)).0.free
+pub returns-in_err-lines-clause-leaves : goal.returns-in_err-lines-clause-leaves
+returns-in_err-lines-clause-leaves g c =
+    let p = err_from_is_err_and c.from_residual.result c.from_residual.ensures.1 in
+    let why = c.in_err-lines.field-0.0 in
+    let ls = c.args.phase.lines in
+    let r = runs_stopped (Unit {0}) PhaseText c.lines.new.core c.lines.new.editors.items (line_tasks ls) (tasks 0 sync_jobs) why c.in_err-lines.ensures.runs in
+    let n = lines_unended {A = Unit {0}} ls why c.requires.order.editors c.requires.ready.none c.requires.ready.room c.in_err-lines.ensures.runs in
+    rw (p.1, p.2) (inl (phase_stopped {A = PhaseText} c.lines.new.core c.lines.new.editors.items ls why c.requires.order.editors c.requires.ready.none c.requires.ready.room r n))
 
-pub drain-requires-clause-sound : goal.drain-requires-clause-sound
-drain-requires-clause-sound g c =
-    let r = (c.in_ok-lines.ensures (any_run c.args.core.now) (at_any c.args.core.now)).0 in
-    rw r.ground c.requires.sound
+pub sync-requires-clause-none_out : goal.sync-requires-clause-none_out
+sync-requires-clause-none_out g c = none_out c.in_ok-lines.ensures.runs.1 c.in_ok-lines.ensures.runs.2
 
-pub drain-requires-clause-schema : goal.drain-requires-clause-schema
-drain-requires-clause-schema g c =
-    let r = (c.in_ok-lines.ensures (any_run c.args.core.now) (at_any c.args.core.now)).0 in
-    rw r.ground c.requires.schema
+pub returns-in_err-revision-clause-runs : goal.returns-in_err-revision-clause-runs
+returns-in_err-revision-clause-runs g c =
+    let p = err_from_is_err_and c.from_residual-in_err-revision.result c.from_residual-in_err-revision.ensures.1 in
+    let is = elem_is c.lines.new.editors.items 0 _ c.index_mut.result.now c.index_mut.ensures.value (omega (arith, c.in_ok-lines.ensures.runs.1.count)) in
+    rw (p.1, p.2) (phase_is {A = PhaseText} c.sync.new.core c.sync.new.caller (line_tasks c.args.phase.lines) (Err c.in_err-revision.field-0.0) c.in_ok-lines.ensures.runs (rw is at c.in_err-revision.ensures.leaves))
 
-pub drain-requires-clause-specs : goal.drain-requires-clause-specs
-drain-requires-clause-specs g c =
-    let r = (c.in_ok-lines.ensures (any_run c.args.core.now) (at_any c.args.core.now)).0 in
-    rw r.ground c.requires.specs
+pub returns-in_err-revision-clause-leaves : goal.returns-in_err-revision-clause-leaves
+returns-in_err-revision-clause-leaves g c =
+    let p = err_from_is_err_and c.from_residual-in_err-revision.result c.from_residual-in_err-revision.ensures.1 in
+    let is = elem_is c.lines.new.editors.items 0 _ c.index_mut.result.now c.index_mut.ensures.value (omega (arith, c.in_ok-lines.ensures.runs.1.count)) in
+    let why = c.in_err-revision.field-0.0 in
+    let ls = c.args.phase.lines in
+    let r = phase_is {A = PhaseText} c.sync.new.core c.sync.new.caller (line_tasks ls) (Err why) c.in_ok-lines.ensures.runs (rw is at c.in_err-revision.ensures.leaves) in
+    let n = sync_unended ls c.sync.new.caller why c.requires.order.editors c.requires.ready.none c.requires.ready.room c.in_ok-lines.ensures.runs c.in_err-revision.ensures.leaves in
+    rw (p.1, p.2) (inl (phase_stopped {A = PhaseText} c.sync.new.core _ ls why c.requires.order.editors c.requires.ready.none c.requires.ready.room r n))
 
-pub returns-in_err-report : goal.returns-in_err-report
-returns-in_err-report g c =
-    let p = err_from_is_err_and c.from_residual-in_err-report.result c.from_residual-in_err-report.ensures.1 in
-    λ s a. rw (p.1, p.2) (stopped_in_drain c.drain.new.core c.in_err-report.field-0.0 s c.args.phase.lines a (c.in_ok-lines.ensures s a).0 c.in_err-report.ensures)
+pub returns-in-Ok-join-clause-runs : goal.returns-in-Ok-join-clause-runs
+returns-in-Ok-join-clause-runs g c =
+    let is = elem_is c.lines.new.editors.items 0 _ c.index_mut.result.now c.index_mut.ensures.value (omega (arith, c.in_ok-lines.ensures.runs.1.count)) in
+    phase_is {A = PhaseText} c.sync.new.core c.sync.new.caller (line_tasks c.args.phase.lines) (Ok (record { text = c.in-Ok-join.text; revision = c.in_ok-revision.revision; report = c.in_ok-revision.report })) c.in_ok-lines.ensures.runs (rw is at c.in_ok-revision.ensures.leaves)
 
-pub returns-in-Ok : goal.returns-in-Ok
-returns-in-Ok g c =
-    λ s a. let r = c.in_ok-lines.ensures s a in
-    let first = rw c.new-text.ensures.items at r.1 in
-    let text = c.lines.new.text.items in
-    phase_done text c.in_ok-report.report c.from_vec.result s c.args.phase.lines r.0 first c.in_ok-report.ensures (c.from_vec.ensures ∙ c.in-Ok.ensures.items ∙ ap (λ (xs : List ℕ). text ++ xs) c.as_slice.ensures)
+pub returns-in-Ok-join-clause-leaves : goal.returns-in-Ok-join-clause-leaves
+returns-in-Ok-join-clause-leaves g c =
+    let is = elem_is c.lines.new.editors.items 0 _ c.index_mut.result.now c.index_mut.ensures.value (omega (arith, c.in_ok-lines.ensures.runs.1.count)) in
+    let leaves = rw is at c.in_ok-revision.ensures.leaves in
+    record {
+      made = phase_made c.sync.new.caller c.args.phase.lines c.requires.order.editors c.requires.ready.none c.requires.ready.room c.in_ok-lines.ensures.runs leaves;
+      told = phase_told c.args.core.now c.lines.new.buffers.items (c.in_ok-revision.revision, c.in_ok-revision.report) c.in-Ok-join.text c.in_ok-lines.ensures.told c.in_ok-revision.ensures.told (rw c.deref.ensures.value at c.in-Ok-join.ensures);
+      none = (phase_is {A = ℕ × List ℕ} c.sync.new.core c.sync.new.caller (line_tasks c.args.phase.lines) (Ok (c.in_ok-revision.revision, c.in_ok-revision.report)) c.in_ok-lines.ensures.runs leaves).2;
+    }
 
-pub returns-in-Err : goal.returns-in-Err
-returns-in-Err g c = λ s a. phase_unmade s c.args.phase.lines a (c.in_ok-lines.ensures s a).0 c.in_ok-report.ensures
+pub returns-clause-runs : goal.returns-clause-runs
+returns-clause-runs g c =
+    let is = elem_is c.lines.new.editors.items 0 _ c.index_mut.result.now c.index_mut.ensures.value (omega (arith, c.in_ok-lines.ensures.runs.1.count)) in
+    runs_unmade (ℕ × List ℕ) PhaseText (line_tasks c.args.phase.lines ++ tasks 0 sync_jobs) (c.in_ok-revision.revision, c.in_ok-revision.report)
+    (phase_is {A = ℕ × List ℕ} c.sync.new.core c.sync.new.caller (line_tasks c.args.phase.lines) (Ok (c.in_ok-revision.revision, c.in_ok-revision.report)) c.in_ok-lines.ensures.runs (rw is at c.in_ok-revision.ensures.leaves))
+
+pub returns-clause-leaves : goal.returns-clause-leaves
+returns-clause-leaves g c =
+    let is = elem_is c.lines.new.editors.items 0 _ c.index_mut.result.now c.index_mut.ensures.value (omega (arith, c.in_ok-lines.ensures.runs.1.count)) in
+    let leaves = rw is at c.in_ok-revision.ensures.leaves in
+    let last = (c.in_ok-revision.revision, c.in_ok-revision.report) in
+    let text = in_order (buffer_at c.lines.new.buffers.items) ++ c.in_ok-revision.report in
+    inr (
+      text,
+      last,
+      record {
+        made = phase_made c.sync.new.caller c.args.phase.lines c.requires.order.editors c.requires.ready.none c.requires.ready.room c.in_ok-lines.ensures.runs leaves;
+        told = phase_told c.args.core.now c.lines.new.buffers.items last text c.in_ok-lines.ensures.told c.in_ok-revision.ensures.told refl;
+        none = (phase_is {A = ℕ × List ℕ} c.sync.new.core c.sync.new.caller (line_tasks c.args.phase.lines) (Ok last) c.in_ok-lines.ensures.runs leaves).2;
+      },
+    )

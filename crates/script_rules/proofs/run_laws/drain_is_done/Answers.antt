@@ -1,5 +1,0 @@
-use Rattle.script_rules.proofs.run_laws.drain_is_done.Goals as goal
-use Rattle.script_rules.proofs.RunLaws as laws
-
-pub returns : goal.returns
-returns c = laws.drain_is_done

@@ -1,0 +1,5 @@
+use Rattle.script_rules.proofs.run_laws.output_grows.Goals as goal
+use Rattle.script_rules.proofs.TextLaws as laws
+
+pub returns : goal.returns
+returns c = laws.output_grows

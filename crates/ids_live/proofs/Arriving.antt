@@ -17,8 +17,8 @@ use Rattle.ids_live.specs.Course.{Replays}
 use Rattle.ids_live.specs.Forms.{Loaded, loaded, loaded_of, and_then, behind, to_schema, to_specs, to_model, schema_read, specs_read, model_read, script_read, IsReached, IsLast}
 use Rattle.ids_live.specs.Inputs.{Inputs, IsHeld, bytes_of, name_of, limit_of, limit, model_limit}
 use Rattle.ids_live.specs.Reading.{IsRead, IsCut, IsPart, CameTo, AreReadBefore, AreRead, IsInput, AreInputs}
-use Rattle.ids_live.specs.Stops.{Reads, Stopped, IsOutside}
-use Rattle.ids_live.specs.Words.{Command}
+use Rattle.ids_live.specs.Stops.{Reads, Stopped, IsAt, IsOutside}
+use Rattle.command_line.specs.Words.{Command}
 
 -- ---- the inputs before one of them
 
@@ -162,10 +162,10 @@ ends_at held command old now new i at a here last = (
 pub stop_at : {V W : Type 0} (held : Option Files) (command : Command) (old now new : List Read) (IsDone : Result Loaded Refused → Ended → Type 0) (i : Inputs) (at : Input) (view : V → W)
     (read : Option (List ℕ) → Result W Refused) (e : Stop) → Arrived held command old now i at → Reads view (IsInput held now new (name_of command at) (limit_of at)) read (Err e)
     → Stopped {V = V} (IsCut (name_of command at) (limit_of at) now new) (IsPart (name_of command at) (limit_of at) now new) (Err e)
-    → ((b : Option (List ℕ)) (refused : Refused) → read b ≡ Err refused → EndsWith i at b refused) → Replays held old new command IsDone (Err e)
-stop_at held command old now new IsDone i at view read stop.Shelf a reads stopped ends = (i, at, record { reached = a.reached; log = now; before = a.before; there = stopped })
-stop_at held command old now new IsDone i at view read stop.Memory a reads stopped ends = (i, at, record { reached = a.reached; log = now; before = a.before; there = stopped })
-stop_at held command old now new IsDone i at view read (stop.Refused refused) a reads stopped ends =
+    → IsAt at e → ((b : Option (List ℕ)) (refused : Refused) → read b ≡ Err refused → EndsWith i at b refused) → Replays held old new command IsDone (Err e)
+stop_at held command old now new IsDone i at view read (stop.Shelf there) a reads stopped here ends = (i, rw here (record { reached = a.reached; log = now; before = a.before; there = stopped }))
+stop_at held command old now new IsDone i at view read stop.Memory a reads stopped here ends = (i, at, record { reached = a.reached; log = now; before = a.before; there = stopped })
+stop_at held command old now new IsDone i at view read (stop.Refused refused) a reads stopped here ends =
     let end = ends reads.0 refused reads.2 in (
       with_bytes i at reads.0,
       ends_at held command old now new (with_bytes i at reads.0) at (arrived_with held command old now i at reads.0 a) (input_with held command now new i at reads.0 reads.1) end.0,
@@ -232,31 +232,31 @@ all_loaded held command old now new g view v (i, a, is) h = (
 -- the stops at the four inputs
 pub stop_at_schema : {V : Type 0} (held : Option Files) (command : Command) (old new : List Read) (IsDone : Result Loaded Refused → Ended → Type 0) (view : V → Schema) (e : Stop)
     → Reads view (IsInput held old new command.schema limit) schema_read (Err e) → Stopped {V = V} (IsCut command.schema limit old new) (IsPart command.schema limit old new) (Err e)
-    → Replays held old new command IsDone (Err e)
-stop_at_schema held command old new IsDone view e reads stopped =
-    stop_at held command old old new IsDone no_inputs input.Schema view schema_read e (at_schema held command old) reads stopped (λ b refused h. ends_at_schema no_inputs b refused h)
+    → IsAt input.Schema e → Replays held old new command IsDone (Err e)
+stop_at_schema held command old new IsDone view e reads stopped here =
+    stop_at held command old old new IsDone no_inputs input.Schema view schema_read e (at_schema held command old) reads stopped here (λ b refused h. ends_at_schema no_inputs b refused h)
 
 pub stop_at_specs : {V : Type 0} (held : Option Files) (command : Command) (old now new : List Read) (IsDone : Result Loaded Refused → Ended → Type 0) (s : Schema) (view : V → List Specification) (e : Stop)
     → AtSpecs held command old now s → Reads view (IsInput held now new command.specs limit) (specs_read s) (Err e)
-    → Stopped {V = V} (IsCut command.specs limit now new) (IsPart command.specs limit now new) (Err e) → Replays held old new command IsDone (Err e)
-stop_at_specs held command old now new IsDone s view e (i, a, is) reads stopped =
-    stop_at held command old now new IsDone i input.Specs view (specs_read s) e a reads stopped (λ b refused h. ends_at_specs i s is b refused h)
+    → Stopped {V = V} (IsCut command.specs limit now new) (IsPart command.specs limit now new) (Err e) → IsAt input.Specs e → Replays held old new command IsDone (Err e)
+stop_at_specs held command old now new IsDone s view e (i, a, is) reads stopped here =
+    stop_at held command old now new IsDone i input.Specs view (specs_read s) e a reads stopped here (λ b refused h. ends_at_specs i s is b refused h)
 
 pub stop_at_model : {V : Type 0} (held : Option Files) (command : Command) (old now new : List Read) (IsDone : Result Loaded Refused → Ended → Type 0) (s : Schema) (q : List Specification) (view : V → Ground) (e : Stop)
     → AtModel held command old now s q → Reads view (IsInput held now new command.model model_limit) (model_read s q) (Err e)
-    → Stopped {V = V} (IsCut command.model model_limit now new) (IsPart command.model model_limit now new) (Err e) → Replays held old new command IsDone (Err e)
-stop_at_model held command old now new IsDone s q view e (i, a, is) reads stopped =
-    stop_at held command old now new IsDone i input.Model view (model_read s q) e a reads stopped (λ b refused h. ends_at_model i s q is b refused h)
+    → Stopped {V = V} (IsCut command.model model_limit now new) (IsPart command.model model_limit now new) (Err e) → IsAt input.Model e → Replays held old new command IsDone (Err e)
+stop_at_model held command old now new IsDone s q view e (i, a, is) reads stopped here =
+    stop_at held command old now new IsDone i input.Model view (model_read s q) e a reads stopped here (λ b refused h. ends_at_model i s q is b refused h)
 
 pub stop_at_script : {V : Type 0} (held : Option Files) (command : Command) (old now new : List Read) (IsDone : Result Loaded Refused → Ended → Type 0) (g : Ground) (view : V → List Phase) (e : Stop)
     → AtScript held command old now g → Reads view (IsInput held now new command.script limit) script_read (Err e)
-    → Stopped {V = V} (IsCut command.script limit now new) (IsPart command.script limit now new) (Err e) → Replays held old new command IsDone (Err e)
-stop_at_script held command old now new IsDone g view e (i, a, is) reads stopped =
-    stop_at held command old now new IsDone i input.Script view script_read e a reads stopped (λ b refused h. ends_at_script i g is b refused h)
+    → Stopped {V = V} (IsCut command.script limit now new) (IsPart command.script limit now new) (Err e) → IsAt input.Script e → Replays held old new command IsDone (Err e)
+stop_at_script held command old now new IsDone g view e (i, a, is) reads stopped here =
+    stop_at held command old now new IsDone i input.Script view script_read e a reads stopped here (λ b refused h. ends_at_script i g is b refused h)
 
 -- a stop for a cause outside says nothing of an input
 pub outside_reads : {I V W : Type 0} (view : V → W) (IsInput : I → Type 0) (read : I → Result W Refused) (e : Stop) → IsOutside e → Reads view IsInput read (Err e)
-outside_reads view IsInput read stop.Shelf h = tt
+outside_reads view IsInput read (stop.Shelf at) h = tt
 outside_reads view IsInput read stop.Memory h = tt
 outside_reads view IsInput read (stop.Refused refused) h = absurd h
 

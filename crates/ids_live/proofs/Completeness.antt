@@ -14,7 +14,7 @@ use Rattle.ids_live.specs.Run.{At, IsRun, IsShelfAfter, IsSinkAfter}
 use Rattle.ids_live.specs.Complete.{IsComplete, IsPlayable, IsOverfull, IsSure, wanted}
 use Rattle.ids_live.specs.Steps.{meets_full}
 use Rattle.ids_live.specs.Told.{AreTold, AreSteady, IsUnsteady}
-use Rattle.ids_live.specs.Words.{Command}
+use Rattle.command_line.specs.Words.{Command}
 use Rattle.ids_live.proofs.Telling.{same_loading}
 
 refused_not_ok : (loading : Result Loaded Refused) (P : Refused → Type 0) → MatchResult loading (λ l. ⊥) P → IsErr loading
@@ -120,13 +120,13 @@ complete held now log logged command old new before faults sink_before sink_faul
     }
 complete held now log logged command old new before faults sink_before sink_faults e i t (suc (suc (suc (suc (suc (suc (suc (suc s)))))))) is lt not_six shelf sink run told = absurd (omega arith)
 
-pub all_complete : (o : Option Command) (held now : Option Files) (log logged : List Read) (old new : Option (List ℕ)) (before faults sink_before sink_faults : ℕ) (e : Ended)
-    → e.status < 8 → (e.status ≡ 6 → o ≡ None) → IsShelfAfter held now before faults e → IsSinkAfter sink_before sink_faults e
+pub all_complete : (Untaken : Type 0) (o : Option Command) (held now : Option Files) (log logged : List Read) (old new : Option (List ℕ)) (before faults sink_before sink_faults : ℕ) (e : Ended)
+    → e.status < 8 → At (6 ∷ []) e.status ((o ≡ None) × Untaken) → IsShelfAfter held now before faults e → IsSinkAfter sink_before sink_faults e
     → IfSome o (λ command. (i : Inputs) × IsRun held log logged command old new e i)
     → IfSome o (λ command. (t : Inputs) → AreTold held command t → IsComplete (loaded_of t) (Rose before faults) (Rose sink_before sink_faults) e.status)
-all_complete None held now log logged old new before faults sink_before sink_faults e lt words shelf sink run = tt
-all_complete (Some command) held now log logged old new before faults sink_before sink_faults e lt words shelf sink run = λ t told.
-    complete held now log logged command old new before faults sink_before sink_faults e run.0 t e.status refl lt (λ six. let bad : Some command ≡ None = words six in absurd (cc)) shelf sink run.1 told
+all_complete Untaken None held now log logged old new before faults sink_before sink_faults e lt words shelf sink run = tt
+all_complete Untaken (Some command) held now log logged old new before faults sink_before sink_faults e lt words shelf sink run = λ t told.
+    complete held now log logged command old new before faults sink_before sink_faults e run.0 t e.status refl lt (λ six. let bad : Some command ≡ None = (rw six at words).0 in absurd (cc)) shelf sink run.1 told
 
 sure_by : (held now : Option Files) (log logged : List Read) (command : Command) (steady : List ℕ → Type 0) (sure : ℕ → Type 0) (before faults sink_before sink_faults : ℕ) (e : Ended) (i t : Inputs) (s : ℕ)
     → e.status ≡ s → s < 8 → IsShelfAfter held now before faults e → IsSinkAfter sink_before sink_faults e → AreTold held command t

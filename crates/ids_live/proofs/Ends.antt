@@ -1,6 +1,6 @@
 -- The ends of a run.
 use Rattle.std.proofs.Common.{◌≡◌, ℕ, ◌+◌, reverse, List, [], ◌∷◌, ◌++◌, length, take, Bool, true, false, ◌||◌, ◌==◌, Option, Result, Ok, Err, inl, refl, ap, sym, subst, ◌∙◌, arith}
-use Rattle.std.specs.Prelude.{⊤, ◌<◌, ◌≤◌, if◌then◌else◌, Some, None, IfSome, IfOk}
+use Rattle.std.specs.Prelude.{⊤, ◌<◌, ◌≤◌, if◌then◌else◌, Some, None, IfSome, IfOk, MatchOption}
 use Rattle.std.specs.Bool.{OnTrue}
 use Rattle.std.proofs.lemmas.Bool.{eqb-true}
 use Rattle.std.proofs.lemmas.List.{append-nil, reverse-reverse}
@@ -8,34 +8,32 @@ use Rattle.shelf_io.specs.Causes.{Rose}
 use Rattle.shelf_io.specs.Pieces.{Files, Appended}
 use Rattle.shelf_io.specs.Reads.{Read}
 use Rattle.audit_model.specs.declared.step.StepRec.{StepRec}
-use Rattle.audit_model.specs.declared.step.Given.{Given}
-use Rattle.audit_model.specs.declared.script.Act.{Act}
 use Rattle.audit_model.specs.declared.script.Phase.{Phase}
 use Rattle.audit_model.specs.declared.step.Limits.{Limits}
 use Rattle.audit_model.specs.History.{out}
 use Rattle.audit_model.specs.Machine.{Legal}
-use Rattle.audit_model.specs.Models.{IsModel}
 use Rattle.script_rules.specs.Output.{output as text_of}
-use Rattle.script_rules.specs.ScriptLines.{free, own}
-use Rattle.script_rules.specs.Serial.{serial as history_of, meets_full as is_filled}
+use Rattle.script_rules.specs.Phased.{ArePhases, HasNoWorkers}
+use Rattle.script_rules.specs.RunLaws.{IsLater}
+use Rattle.script_rules.specs.Serial.{script_history, serial as history_of, meets_full as is_filled}
+use Rattle.script_rules.specs.Stopped.{AreStopped, returned, FullIsLong}
 use Rattle.serial_run.specs.declared.run.End.{End}
 use Rattle.serial_run.specs.declared.run.End.TheVariants as ending
 use Rattle.serial_run.specs.declared.run.Ran.{Ran}
-use Rattle.serial_run.specs.Growth.{IsLater, returns, returned}
-use Rattle.serial_run.specs.Phased.{ArePhases, ScriptIsPhased}
-use Rattle.serial_run.specs.Stopped.{StopsFrom, AreStopped, StopIsPhased, FullIsLong}
-use Rattle.serial_run.specs.Runs.{ends_pass, script_history, IsWhole, IsUnwritten, IsFull, IsLeft, IsEndedBy, IsFinished, IsRan, IsWritten}
+use Rattle.serial_run.specs.Runs.{ends_pass, IsWhole, IsUnwritten, IsFull, IsLeft, IsEndedBy, IsFinished, IsRan, IsWritten}
 use Rattle.ids_live.specs.declared.ending.Ended.{Ended}
+use Rattle.ids_live.specs.declared.refused.Input.{Input}
+use Rattle.ids_live.specs.declared.refused.Input.TheVariants as input
 use Rattle.ids_live.specs.declared.refused.Refused.{Refused}
 use Rattle.ids_live.specs.Fitness.{IsFit}
 use Rattle.ids_live.specs.Lines.{refused_line}
 use Rattle.ids_live.specs.Steps.{serial, meets_full, output, status_at}
-use Rattle.ids_live.specs.Words.{Command}
+use Rattle.command_line.specs.Words.{Command}
 use Rattle.ids_live.specs.Forms.{Loaded, loaded_of, limits}
 use Rattle.ids_live.specs.Inputs.{Inputs}
 use Rattle.ids_live.specs.Complete.{wanted}
 use Rattle.ids_live.specs.Course.{IsPast}
-use Rattle.ids_live.specs.Reading.{IsCut, IsPart, CameTo, AreInputs}
+use Rattle.ids_live.specs.Reading.{IsCut, IsPart, CameAt, CameTo, AreInputs}
 use Rattle.ids_live.proofs.Arriving.{no_inputs, read_part}
 use Rattle.ids_live.specs.Run.{At, IfSteps, IsEndOf, IsRun, IsSinkAfter, is_among}
 
@@ -45,16 +43,12 @@ legal_none (Err refused) journal none = tt
 legal_none (Ok l) journal none = rw none tt
 
 -- a front of no phase is one of any script
-stopped_none : (read : Result Loaded Refused) (journal : List StepRec) → journal ≡ [] → IfOk read (λ l. AreStopped l.phases journal)
+stopped_none : (read : Result Loaded Refused) (journal : List StepRec) → journal ≡ [] → IfOk read (λ l. AreStopped l.phases (reverse journal))
 stopped_none (Err refused) journal none = tt
 stopped_none (Ok l) journal none = rw none (none_begun l.phases) where
-  none_done : (acts : List Act) → StopsFrom 1 free acts [] None
-  none_done [] = (refl, refl)
-  none_done (a ∷ acts) = inl (refl, refl)
-
   none_begun : (ps : List Phase) → AreStopped ps []
   none_begun [] = refl
-  none_begun (p ∷ ps) = inl (record { own_entries = []; held = None; split = refl; stops = none_done (own 1 p.lines) })
+  none_begun (p ∷ ps) = inl refl
 
 pub early_end : (read : Result Loaded Refused) (old new : Option (List ℕ)) (e : Ended) → e.journal ≡ [] → e.status ≡ 5 → new ≡ old → IsEndOf read old new e
 early_end read old new e none status same = record {
@@ -62,6 +56,7 @@ early_end read old new e none status same = record {
   room = rw status tt;
   history = rw status tt;
   phases = rw status tt;
+  alone = rw status tt;
   stopped = rw status (stopped_none read e.journal none);
   none_out = rw (status, none) refl;
   legal = rw status (legal_none read e.journal none);
@@ -80,6 +75,7 @@ shelf_end read old new e status = record {
   room = rw status tt;
   history = rw status tt;
   phases = rw status tt;
+  alone = rw status tt;
   stopped = rw status tt;
   none_out = rw status tt;
   legal = rw status tt;
@@ -99,6 +95,7 @@ refused_end refused old new e none written status = record {
   room = rw status tt;
   history = rw status tt;
   phases = rw status tt;
+  alone = rw status tt;
   stopped = rw status tt;
   none_out = rw status tt;
   legal = rw status tt;
@@ -118,6 +115,7 @@ refused_cut refused old new e n none short written status = record {
   room = rw status tt;
   history = rw status tt;
   phases = rw status tt;
+  alone = rw status tt;
   stopped = rw status tt;
   none_out = rw (status, none) refl;
   legal = rw status tt;
@@ -145,22 +143,33 @@ early_run command held before after old new e none five same part = (
 )
 
 -- or for a fault of the shelf
-pub shelf_run : (command : Command) (held : Option Files) (before after : List Read) (old new : Option (List ℕ)) (e : Ended) → e.status ≡ 3 → CameTo IsCut command before after
+pub shelf_run : (command : Command) (held : Option Files) (before after : List Read) (old new : Option (List ℕ)) (e : Ended) (at : Input) → e.status ≡ 3 → e.failed ≡ Some at → CameAt IsCut command before after at
     → (i : Inputs) × IsRun held before after command old new e i
-shelf_run command held before after old new e three cut = (
+shelf_run command held before after old new e at three failed cut = (
   no_inputs,
   record {
     inputs = rw three tt;
     inputs_in_steps = rw three tt;
-    cut = rw three cut;
+    cut = rw (three, failed) cut;
     part = rw three tt;
     ends = shelf_end (loaded_of no_inputs) old new e three;
   },
 )
 
 -- what is said of the command that the words give
-pub of_command : {o : Option Command} (command : Command) (P : Command → Type 0) → Some command ≡ o → P command → IfSome o P
-of_command command P is h = subst (λ (o : Option Command). IfSome o P) is h
+pub of_command : {o : Option Command} (command : Command) (P : Command → Type 0) → o ≡ Some command → P command → IfSome o P
+of_command command P is h = rw is h
+
+-- words that are taken aren't refused
+pub is_taken : {o : Option Command} (command : Command) (P : Type 0) → o ≡ Some command → o ≡ None → P
+is_taken command P is none = absurd (let bad : Some command ≡ None = rw is at none in cc)
+
+-- memory was wanting before the words were read
+pub unread_run : (o : Option Command) (held : Option Files) (before : List Read) (old : Option (List ℕ)) (e : Ended) → e.journal ≡ [] → e.status ≡ 5
+    → IfSome o (λ command. (i : Inputs) × IsRun held before before command old old e i)
+unread_run None held before old e none five = tt
+unread_run (Some command) held before old e none five =
+    early_run command held before before old old e none five refl (no_inputs, input.Schema, record { reached = tt; log = before; before = refl; there = inl ([], ([], refl, refl)) })
 
 -- The status of a run whose inputs were read isn't 3.
 
@@ -197,7 +206,7 @@ in_steps : (journal : List StepRec) (P : Type 0) → P → IfSteps journal ⊤ P
 in_steps [] P h = tt
 in_steps (e ∷ es) P h = h
 
-at_some : (statuses : List ℕ) (s : ℕ) (P : Type 0) → P → At statuses s P
+pub at_some : (statuses : List ℕ) (s : ℕ) (P : Type 0) → P → At statuses s P
 at_some statuses s P h = given (is_among statuses s) where
   given : (b : Bool) → OnTrue b P
   given true = h
@@ -212,7 +221,7 @@ read_run command held before after old new e loading (i, inputs, loads) among en
   record {
     inputs = at_some (0 ∷ 1 ∷ 2 ∷ 4 ∷ 7 ∷ []) e.status (AreInputs held before after command i) inputs;
     inputs_in_steps = at_some (5 ∷ []) e.status (IfSteps e.journal ⊤ (AreInputs held before after command i)) (in_steps e.journal (AreInputs held before after command i) inputs);
-    cut = not_3 (CameTo IsCut command before after) e.status among;
+    cut = not_3 (MatchOption e.failed ⊥ (CameAt IsCut command before after)) e.status among;
     part = at_some (5 ∷ []) e.status (CameTo IsPart command before after) (read_part command before after i inputs.1);
     ends = subst (λ (r : Result Loaded Refused). IsEndOf r old new e) (sym loads) ends;
   },
@@ -268,7 +277,8 @@ output_of l journal = refl
 record IsPlayed (l : Loaded) (old new : Option (List ℕ)) (e : Ended) : Type 0 where
   pub room : meets_full l ≡ false
   pub history : e.journal ≡ serial l
-  pub phases : ArePhases l.phases e.journal
+  pub phases : ArePhases l.phases (reverse e.journal)
+  pub alone : HasNoWorkers (reverse e.journal)
   pub legal : Legal l.ground (reverse e.journal)
   pub text : Appended old new (output l e.journal)
   pub verdict : e.status ≡ (if ends_pass (output l e.journal) then 0 else 1)
@@ -287,6 +297,7 @@ played l old new e b k status = record {
   room = at_some (0 ∷ 1 ∷ []) e.status _ k.room;
   history = at_some (0 ∷ 1 ∷ []) e.status _ k.history;
   phases = at_some (0 ∷ 1 ∷ []) e.status _ k.phases;
+  alone = at_some (0 ∷ 1 ∷ []) e.status _ k.alone;
   stopped = at_others (4 ∷ 5 ∷ 7 ∷ []) e.status b _ status refl refl;
   none_out = at_others (4 ∷ 5 ∷ 7 ∷ []) e.status b _ status refl refl;
   legal = at_some (0 ∷ 1 ∷ 4 ∷ 5 ∷ 7 ∷ []) e.status _ k.legal;
@@ -299,11 +310,12 @@ played l old new e b k status = record {
   memory = at_others (5 ∷ []) e.status b _ status refl refl;
 }
 
-is_played : (l : Loaded) (old new : Option (List ℕ)) (e : Ended) (b : Bool) → IsFit l.ground l.phases → ScriptIsPhased → IsModel l.ground.first → IsWhole l.ground l.phases old new e.journal → Legal l.ground (reverse e.journal) → ends_pass (text_of l.ground e.journal) ≡ b → e.status ≡ (if b then 0 else 1) → IsPlayed l old new e
-is_played l old new e b fit law model w legal passes status = record {
+is_played : (l : Loaded) (old new : Option (List ℕ)) (e : Ended) (b : Bool) → IsWhole l.ground l.phases old new e.journal → Legal l.ground (reverse e.journal) → ends_pass (text_of l.ground e.journal) ≡ b → e.status ≡ (if b then 0 else 1) → IsPlayed l old new e
+is_played l old new e b w legal passes status = record {
   room = full_of l ∙ w.not_full;
   history = w.journal_is ∙ sym (serial_of l);
-  phases = subst (λ (es : List StepRec). ArePhases l.phases es) (sym w.journal_is) (law l.ground l.phases fit.specs.numbered model fit.order w.not_full);
+  phases = w.phased;
+  alone = w.no_workers;
   legal = legal;
   text = subst (λ (xs : List ℕ). Appended old new xs) (sym (output_of l e.journal)) w.text;
   verdict = status ∙ ap (λ (x : Bool). if x then 0 else 1) (sym passes ∙ sym (ap (λ (xs : List ℕ). ends_pass xs) (output_of l e.journal)));
@@ -311,7 +323,7 @@ is_played l old new e b fit law model w legal passes status = record {
 
 -- what stands of a journal that is no whole history
 abbrev IsStop : Loaded → List StepRec → Type 0
-IsStop l journal = AreStopped l.phases journal × (out (reverse journal) ≡ [])
+IsStop l journal = AreStopped l.phases (reverse journal) × (out (reverse journal) ≡ [])
 
 -- The sink failed in the text of a phase.
 unwritten_end : (l : Loaded) (old new : Option (List ℕ)) (e : Ended) → IsUnwritten l.ground l.phases old new e.journal → Legal l.ground (reverse e.journal) → IsStop l e.journal → e.status ≡ 4 → IsEndOf (Ok l) old new e
@@ -320,6 +332,7 @@ unwritten_end l old new e u legal stop status = record {
   room = rw status tt;
   history = rw status tt;
   phases = rw status tt;
+  alone = rw status tt;
   stopped = rw status stop.0;
   none_out = rw status stop.1;
   legal = rw status legal;
@@ -335,16 +348,18 @@ unwritten_end l old new e u legal stop status = record {
 -- A call would have been answered Full.
 full_end : (l : Loaded) (old new : Option (List ℕ)) (e : Ended) → l.ground.limits ≡ limits → FullIsLong → IsFull l.ground l.phases old new e.journal → Legal l.ground (reverse e.journal) → IsStop l e.journal → e.status ≡ 7 → IsEndOf (Ok l) old new e
 full_end l old new e within law u legal stop status =
-    let back : reverse e.journal ≡ returned (reverse (serial l)) =
-    u.back ∙ ap (λ (h : List StepRec). returned h) (sym (ap (λ (es : List StepRec). reverse es) (serial_of l) ∙ reverse-reverse (script_history l.ground l.phases))) in
+    let back : reverse e.journal ≡ returned l.phases (reverse (serial l)) =
+    u.back ∙ ap (λ (h : List StepRec). returned l.phases h) (sym (ap (λ (es : List StepRec). reverse es) (serial_of l) ∙ reverse-reverse (script_history l.ground l.phases))) in
     let text : Appended old new (output l e.journal) = subst (λ (xs : List ℕ). Appended old new xs) (sym (output_of l e.journal)) u.text in
-    let most : 16777216 ≤ length e.journal + 1 = subst (λ (x : Limits). x.steps ≤ length e.journal + 1) within (law l.ground l.phases e.journal u.full u.back) in
+    let most : 16777216 ≤ length e.journal + 1 = subst (λ (x : Limits). x.steps ≤ length e.journal + 1) within (law l.ground l.phases e.journal u.full legal stop.1 u.back) in
     let long : 16777215 ≤ length e.journal = omega (arith, most) in
     record {
       all_read = rw status refl;
       room = rw status tt;
       history = rw status tt;
       phases = rw status tt;
+      alone = rw status tt;
+      alone = rw status tt;
       stopped = rw status stop.0;
       none_out = rw status stop.1;
       legal = rw status legal;
@@ -383,6 +398,7 @@ left_end l old new e u legal stop status = record {
   room = rw status tt;
   history = rw status tt;
   phases = rw status tt;
+  alone = rw status tt;
   stopped = rw status stop.0;
   none_out = rw status stop.1;
   legal = rw status legal;
@@ -396,21 +412,19 @@ left_end l old new e u legal stop status = record {
 }
 
 -- All ends of a run.
-ended_by : (l : Loaded) (old new : Option (List ℕ)) (e : Ended) (end : End) → IsFit l.ground l.phases → ScriptIsPhased → StopIsPhased → FullIsLong → IsModel l.ground.first → IsEndedBy l.ground l.phases old new e.journal end → Legal l.ground (reverse e.journal) → e.status ≡ status_at end → IsEndOf (Ok l) old new e
-ended_by l old new e ending.Passed fit law stops longs model k legal status = played l old new e true (is_played l old new e true fit law model k.0 legal k.1 status) status
-ended_by l old new e ending.Failed fit law stops longs model k legal status = played l old new e false (is_played l old new e false fit law model k.0 legal k.1 status) status
-ended_by l old new e ending.Unwritten fit law stops longs model k legal status =
-    let alone : returned (reverse e.journal) ≡ reverse e.journal = ap (λ (cs : List Given). returns cs ++ reverse e.journal) k.none_out in
-    unwritten_end l old new e k legal (stops l.ground l.phases e.journal fit.specs.numbered model fit.order (record { front = reverse e.journal; within = k.within; back = sym alone })) status
-ended_by l old new e ending.Memory fit law stops longs model k legal status = left_end l old new e k legal (stops l.ground l.phases e.journal fit.specs.numbered model fit.order k.cut) status
-ended_by l old new e ending.Full fit law stops longs model k legal status =
-    full_end l old new e fit.within longs k legal (stops l.ground l.phases e.journal fit.specs.numbered model fit.order (record { front = script_history l.ground l.phases; within = ([], refl); back = k.back })) status
+ended_by : (l : Loaded) (old new : Option (List ℕ)) (e : Ended) (end : End) → IsFit l.ground l.phases → FullIsLong → IsEndedBy l.ground l.phases old new e.journal end → Legal l.ground (reverse e.journal) → out (reverse e.journal) ≡ [] → e.status ≡ status_at end → IsEndOf (Ok l) old new e
+ended_by l old new e ending.Passed fit law k legal none status = played l old new e true (is_played l old new e true k.0 legal k.1 status) status
+ended_by l old new e ending.Failed fit law k legal none status = played l old new e false (is_played l old new e false k.0 legal k.1 status) status
+ended_by l old new e ending.Unwritten fit law k legal none status = unwritten_end l old new e k legal (k.stopped, none) status
+ended_by l old new e ending.Memory fit law k legal none status = left_end l old new e k legal (k.cut.stopped, none) status
+ended_by l old new e ending.Full fit law k legal none status = full_end l old new e fit.within law k legal (k.stopped, none) status
 
-pub play_end : (l : Loaded) (old new : Option (List ℕ)) (ran : Ran) (e : Ended) → IsFit l.ground l.phases → ScriptIsPhased → StopIsPhased → FullIsLong → IsRan l.ground l.phases old new ran → e.journal ≡ ran.journal → e.status ≡ status_at ran.end → IsEndOf (Ok l) old new e
-play_end l old new ran e fit law stops longs k journal status =
-    ended_by l old new e ran.end fit law stops longs fit.model
+pub play_end : (l : Loaded) (old new : Option (List ℕ)) (ran : Ran) (e : Ended) → IsFit l.ground l.phases → FullIsLong → IsRan l.ground l.phases old new ran → e.journal ≡ ran.journal → e.status ≡ status_at ran.end → IsEndOf (Ok l) old new e
+play_end l old new ran e fit law k journal status =
+    ended_by l old new e ran.end fit law
     (subst (λ (es : List StepRec). IsEndedBy l.ground l.phases old new es ran.end) (sym journal) k.ended)
-    (subst (λ (es : List StepRec). Legal l.ground (reverse es)) (sym journal) k.legal) status
+    (subst (λ (es : List StepRec). Legal l.ground (reverse es)) (sym journal) k.legal)
+    (subst (λ (es : List StepRec). out (reverse es) ≡ []) (sym journal) k.none_out) status
 
 -- The sink's count of faults: it stands still, or the sink failed.
 calm_sink : (before faults : ℕ) (e : Ended) → faults ≡ before → is_among (4 ∷ []) e.status ≡ false → IsSinkAfter before faults e
@@ -445,12 +459,22 @@ never_unwritten ending.Unwritten n w is four = w
 never_unwritten ending.Memory n w is four = absurd (cc)
 never_unwritten ending.Full n w is four = absurd (cc)
 
-four : (n : ℕ) (b : Bool) → (4 == n) ≡ b → (b || false) ≡ true → n ≡ 4
-four n true e t = sym (eqb-true 4 n e)
-four n false e t = absurd (cc)
+one : (k n : ℕ) (b : Bool) → (k == n) ≡ b → (b || false) ≡ true → n ≡ k
+one k n true e t = sym (eqb-true k n e)
+one k n false e t = absurd (cc)
 
 pub at_4 : (n : ℕ) (P : Type 0) → (n ≡ 4 → P) → At (4 ∷ []) n P
-at_4 n P f = on_true (is_among (4 ∷ []) n) P (λ t. f (four n (4 == n) refl t))
+at_4 n P f = on_true (is_among (4 ∷ []) n) P (λ t. f (one 4 n (4 == n) refl t))
+
+-- what is never so says nothing
+pub at_6 : (n : ℕ) (P : Type 0) → (n ≡ 6 → ⊥) → At (6 ∷ []) n P
+at_6 n P never = on_true (is_among (6 ∷ []) n) P (λ t. absurd (never (one 6 n (6 == n) refl t)))
+
+pub early_6 : (n : ℕ) (P : Type 0) → (n ≡ 6 → ⊥) → At (3 ∷ []) n P → At (3 ∷ 6 ∷ []) n P
+early_6 n P never early = by_test (3 == n) (6 == n) refl early where
+  by_test : (a b : Bool) → (6 == n) ≡ b → OnTrue (a || false) P → OnTrue (a || (b || false)) P
+  by_test true b e h = h
+  by_test false b e h = on_true (b || false) P (λ t. absurd (never (one 6 n b e t)))
 
 -- ---- what is to be written
 
@@ -463,10 +487,18 @@ unfolding wanted
 wanted_line refused = refl
 
 -- an end at another status than 4 says nothing of the sink
-pub no_fault_of_sink : (P : Command → Inputs → Type 0) (o : Option Command) (status : ℕ) → is_among (4 ∷ []) status ≡ false
-    → IfSome o (λ command. (i : Inputs) × At (4 ∷ []) status (P command i))
-no_fault_of_sink P None status other = tt
-no_fault_of_sink P (Some command) status other = (no_inputs, rw other tt)
+pub no_fault_of_sink : (P : Inputs → Type 0) (status : ℕ) → is_among (4 ∷ []) status ≡ false → (i : Inputs) × At (4 ∷ []) status (P i)
+no_fault_of_sink P status other = (no_inputs, rw other tt)
+
+-- likewise for any command
+pub calm_run : (P : Command → Inputs → Type 0) (o : Option Command) (status : ℕ) → is_among (4 ∷ []) status ≡ false → IfSome o (λ command. (i : Inputs) × At (4 ∷ []) status (P command i))
+calm_run P None status other = tt
+calm_run P (Some command) status other = no_fault_of_sink (P command) status other
+
+-- an end at another status than 3 says nothing of the shelf
+pub steady_run : (P : Command → Type 0) (o : Option Command) (status : ℕ) → is_among (3 ∷ []) status ≡ false → IfSome o (λ command. At (3 ∷ []) status (P command))
+steady_run P None status other = tt
+steady_run P (Some command) status other = rw other tt
 
 -- sure of so many bytes and no more
 pub no_more : (sure : ℕ → Type 0) (n : ℕ) → sure n → sure (n + 0)

@@ -21,7 +21,7 @@ use Rattle.ids_live.specs.Inputs.{Inputs, HasFile, IsHeld, bytes_of, name_of, li
 use Rattle.ids_live.specs.Reading.{AreHeld}
 use Rattle.ids_live.specs.Stops.{StaysSteady}
 use Rattle.ids_live.specs.Told.{within, input_told, AreTold, AreSteady, IsUnsteady}
-use Rattle.ids_live.specs.Words.{Command}
+use Rattle.command_line.specs.Words.{Command}
 use Rattle.ids_live.proofs.Arriving.{Arrived, and_then_err, and_then_ok, reads_ok}
 
 -- ---- what was read of a file that may have one byte more than the limit
@@ -178,7 +178,7 @@ pub stops : (V : Type 0) (held now : Option Files) (steady was after : List ℕ 
     → now ≡ held → mid ≡ before → ((other : List ℕ) → steady other → was other) → Comes held steady command name
     → StaysSteady {V = V} was after mid faults (was (chars name) → IsMissing now (chars name)) (Err e)
     → StaysSteady {V = Ended} steady after before faults (IsUnsteady held steady command) (Err e)
-stops V held now steady was after command name before mid faults stop.Shelf same calm stays comes k = record {
+stops V held now steady was after command name before mid faults (stop.Shelf there) same calm stays comes k = record {
   stays = λ other h. k.stays other (stays other h);
   calm = tt;
   sure = λ i t s.

@@ -9,9 +9,9 @@ use Rattle.ids_live.specs.declared.stop.Stop.TheVariants as stop
 use Rattle.ids_live.specs.Complete.{wanted}
 use Rattle.ids_live.specs.Forms.{Loaded, loaded_of}
 use Rattle.ids_live.specs.Inputs.{Inputs}
-use Rattle.ids_live.specs.Reading.{IsCut, IsPart, CameTo, AreInputs}
+use Rattle.ids_live.specs.Reading.{IsCut, IsPart, CameAt, CameTo, AreInputs}
 use Rattle.ids_live.specs.Run.{At, IsEndOf}
-use Rattle.ids_live.specs.Words.{Command}
+use Rattle.command_line.specs.Words.{Command}
 
 -- The run has come past its inputs, which read so. `old` and `new` are what was written before and after, and `sure` is of how many bytes
 -- the sink was sure.
@@ -24,5 +24,5 @@ pub record IsPast (old new : Option (List ℕ)) (sure : ℕ → Type 0) (loading
 abbrev pub Replays : Option Files → List Read → List Read → Command → (Result Loaded Refused → Ended → Type 0) → Result Ended Stop → Type 0
 Replays held before after command IsDone (Ok ended) = (i : Inputs) × AreInputs held before after command i × IsDone (loaded_of i) ended
 Replays held before after command IsDone (Err (stop.Refused refused)) = (i : Inputs) × AreInputs held before after command i × (loaded_of i ≡ Err refused)
-Replays held before after command IsDone (Err stop.Shelf) = CameTo IsCut command before after
+Replays held before after command IsDone (Err (stop.Shelf at)) = CameAt IsCut command before after at
 Replays held before after command IsDone (Err stop.Memory) = CameTo IsPart command before after

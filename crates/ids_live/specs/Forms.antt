@@ -17,7 +17,9 @@ use Rattle.audit_model.specs.declared.script.Phase.{Phase}
 use Rattle.audit_model.specs.History.{Ground}
 use Rattle.audit_model.specs.Models.{model_of_file}
 use Rattle.audit_core.specs.Fitting.{model_fault}
-use Rattle.narrow_forms.specs.Script.{script_reading}
+use Rattle.script_read.specs.declared.read.Script.{Script}
+use Rattle.script_read.specs.declared.fault.ScriptCause.{ScriptCause}
+use Rattle.script_read.specs.Faults.{script_reading}
 use Rattle.ids_reader.specs.Documents.{ids_reading}
 use Rattle.ids_live.specs.declared.refused.Input.{Input}
 use Rattle.ids_live.specs.declared.refused.Input.TheVariants as input
@@ -81,8 +83,13 @@ ground_filed s q (Ok file) = unless InModel (model_fault s file) (ground_of s q 
 unfoldable pub model_of : Schema → List Specification → List ℕ → Result Ground Refused
 model_of s q bytes = ground_filed s q (file_reading instance_limit bytes)
 
+abbrev pub phases_read : Result Script (Fault ScriptCause) → Result (List Phase) Refused
+phases_read (Ok script) = Ok script.phases
+phases_read (Err fault) = Err (InScript fault)
+
+-- The phases of the script.
 unfoldable pub script_of : List ℕ → Result (List Phase) Refused
-script_of bytes = refused_as InScript (script_reading bytes)
+script_of bytes = phases_read (script_reading bytes)
 
 abbrev pub schema_read : Option (List ℕ) → Result Schema Refused
 schema_read bytes = within_limit input.Schema schema_of bytes

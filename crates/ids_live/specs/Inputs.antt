@@ -4,7 +4,7 @@ use Rattle.std.specs.Str.{chars}
 use Rattle.shelf_io.specs.Pieces.{Files, file_named}
 use Rattle.ids_live.specs.declared.refused.Input.{Input}
 use Rattle.ids_live.specs.declared.refused.Input.TheVariants as input
-use Rattle.ids_live.specs.Words.{Command}
+use Rattle.command_line.specs.Words.{Command}
 
 -- An input is its bytes, or None where it is longer than its limit.
 pub record Inputs : Type 0 where

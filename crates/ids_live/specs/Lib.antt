@@ -1,4 +1,3 @@
-pub mod Words
 pub mod Inputs
 pub mod Forms
 pub mod Lines
@@ -9,5 +8,4 @@ pub mod Steps
 pub mod Run
 pub mod Complete
 pub mod Course
-pub mod Failures
 pub mod Fitness

@@ -13,6 +13,8 @@ use Rattle.audit_core.specs.declared.fits.ModelFault.{ModelFault}
 use Rattle.audit_core.specs.declared.fits.ModelFault.TheVariants as model
 use Rattle.ids_reader.specs.declared.fault.IdsCause.{IdsCause}
 use Rattle.ids_reader.specs.declared.fault.IdsCause.TheVariants as ids
+use Rattle.script_read.specs.declared.fault.ScriptCause.{ScriptCause}
+use Rattle.script_read.specs.declared.fault.ScriptCause.TheVariants as script
 use Rattle.ids_live.specs.declared.refused.Input.{Input}
 use Rattle.ids_live.specs.declared.refused.Input.TheVariants as input
 use Rattle.ids_live.specs.declared.refused.Refused.{Refused}
@@ -56,6 +58,16 @@ p21_word p21.TooManyInstances = codes " TooManyInstances\n"
 p21_word p21.NoEnd = codes " NoEnd\n"
 p21_word p21.BadToken = codes " BadToken\n"
 
+abbrev pub script_word : ScriptCause → List ℕ
+script_word script.BadLine = codes " BadLine\n"
+script_word script.TooManyActors = codes " TooManyActors\n"
+script_word script.Holding = codes " Holding\n"
+script_word script.NotHolding = codes " NotHolding\n"
+script_word script.DraftOpen = codes " DraftOpen\n"
+script_word script.NoDraft = codes " NoDraft\n"
+script_word script.TooManyEdits = codes " TooManyEdits\n"
+script_word script.NoSync = codes " NoSync\n"
+
 abbrev pub instance_word : InstanceFault → List ℕ
 instance_word (UnknownEntity name) = codes " UnknownEntity\n"
 instance_word (AbstractEntity name) = codes " AbstractEntity\n"
@@ -83,4 +95,4 @@ refused_line (InSchema fault) = codes "refused schema " ++ schema_words fault
 refused_line (InSpecs fault) = codes "refused specs spec " ++ decimal fault.spec ++ codes " place " ++ decimal fault.place ++ ids_word fault.why
 refused_line (InFile fault) = codes "refused model line " ++ decimal fault.line ++ p21_word fault.why
 refused_line (InModel fault) = codes "refused model " ++ model_words fault
-refused_line (InScript fault) = codes "refused script line " ++ decimal fault.line ++ codes " NotBuilt\n"
+refused_line (InScript fault) = codes "refused script line " ++ decimal fault.line ++ script_word fault.why

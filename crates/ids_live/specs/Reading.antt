@@ -7,7 +7,7 @@ use Rattle.ids_live.specs.declared.refused.Input.{Input}
 use Rattle.ids_live.specs.declared.refused.Input.TheVariants as input
 use Rattle.ids_live.specs.Forms.{IsReached, IsLast}
 use Rattle.ids_live.specs.Inputs.{Inputs, IsHeld, bytes_of, name_of, limit_of, limit, model_limit}
-use Rattle.ids_live.specs.Words.{Command}
+use Rattle.command_line.specs.Words.{Command}
 
 -- The log went from `old` to `new` by reading this input: whole, or one byte past its limit where it is longer.
 abbrev pub IsRead : List ℕ → ℕ → List Read → List Read → Option (List ℕ) → Type 0
@@ -39,7 +39,11 @@ pub record IsAtInput (IsThere : List ℕ → ℕ → List Read → List Read →
   pub before : AreReadBefore command i at old log
   pub there : IsThere (name_of command at) (limit_of at) log new
 
--- At one of the inputs this is so; those before it were read in their turn and have a reading.
+-- At this input this is so; those before it were read in their turn and have a reading.
+abbrev pub CameAt : (List ℕ → ℕ → List Read → List Read → Type 0) → Command → List Read → List Read → Input → Type 0
+CameAt IsThere command old new at = (i : Inputs) × IsAtInput IsThere command old new i at
+
+-- The same at one of the inputs.
 abbrev pub CameTo : (List ℕ → ℕ → List Read → List Read → Type 0) → Command → List Read → List Read → Type 0
 CameTo IsThere command old new = (i : Inputs) × (at : Input) × IsAtInput IsThere command old new i at
 

@@ -1,5 +1,5 @@
 -- What a run leaves, clause by clause.
-use Rattle.std.specs.Prelude.{◌≡◌, ◌==◌, ℕ, ◌≤◌, Bool, true, false, List, [], ◌∷◌, length, Option, Result, IsOk, IfOk, MatchResult, reverse, ⊤, if◌then◌else◌}
+use Rattle.std.specs.Prelude.{◌≡◌, ◌==◌, ℕ, ◌≤◌, Bool, true, false, List, [], ◌∷◌, length, Option, Result, IsOk, IfOk, IsTrue, MatchOption, MatchResult, reverse, ⊤, if◌then◌else◌}
 use Rattle.std.specs.Bool.{OnTrue}
 use Rattle.std.specs.List.{list_any}
 use Rattle.shelf_io.specs.Causes.{Rose}
@@ -10,15 +10,14 @@ use Rattle.audit_model.specs.Machine.{Legal}
 use Rattle.audit_model.specs.declared.step.StepRec.{StepRec}
 use Rattle.ids_live.specs.declared.ending.Ended.{Ended}
 use Rattle.ids_live.specs.declared.refused.Refused.{Refused}
-use Rattle.ids_live.specs.Words.{Command}
+use Rattle.command_line.specs.Words.{Command}
 use Rattle.ids_live.specs.Forms.{Loaded, loaded_of}
 use Rattle.ids_live.specs.Inputs.{Inputs}
-use Rattle.ids_live.specs.Reading.{IsCut, IsPart, CameTo, AreInputs}
+use Rattle.ids_live.specs.Reading.{IsCut, IsPart, CameAt, CameTo, AreInputs}
 use Rattle.ids_live.specs.Lines.{refused_line}
-use Rattle.serial_run.specs.Growth.{returned}
-use Rattle.serial_run.specs.Phased.{ArePhases}
+use Rattle.script_rules.specs.Phased.{ArePhases, HasNoWorkers}
+use Rattle.script_rules.specs.Stopped.{AreStopped, returned}
 use Rattle.serial_run.specs.Runs.{ends_pass, IsUnwritten, IsLeft}
-use Rattle.serial_run.specs.Stopped.{AreStopped}
 use Rattle.ids_live.specs.Steps.{serial, meets_full, output, IsFrontWritten}
 
 -- the status is one of these
@@ -42,10 +41,12 @@ pub record IsEndOf (loading : Result Loaded Refused) (old new : Option (List ℕ
   pub room : At (0 ∷ 1 ∷ []) ended.status (MatchResult loading (λ l. meets_full l ≡ false) (λ refused. ⊥))
   -- the history is the one that the inputs make
   pub history : At (0 ∷ 1 ∷ []) ended.status (IfOk loading (λ l. ended.journal ≡ serial l))
-  -- it falls into the phases of the script: the entries of the editor follow its lines, and then comes the drain with the report
-  pub phases : At (0 ∷ 1 ∷ []) ended.status (IfOk loading (λ l. ArePhases l.phases ended.journal))
-  -- at 4, 5 and 7 some phases are whole, and of the next a front was done, behind which the claim that was held was given back
-  pub stopped : At (4 ∷ 5 ∷ 7 ∷ []) ended.status (IfOk loading (λ l. AreStopped l.phases ended.journal))
+  -- it falls into the phases of the script: the entries of each editor follow its lines, and then comes the drain with the report
+  pub phases : At (0 ∷ 1 ∷ []) ended.status (IfOk loading (λ l. ArePhases l.phases (reverse ended.journal)))
+  -- nobody else makes an entry
+  pub alone : At (0 ∷ 1 ∷ []) ended.status (IfOk loading (λ l. HasNoWorkers (reverse ended.journal)))
+  -- at 4, 5 and 7 some phases are whole, and of the next a front was done, behind which each claim that was held was given back
+  pub stopped : At (4 ∷ 5 ∷ 7 ∷ []) ended.status (IfOk loading (λ l. AreStopped l.phases (reverse ended.journal)))
   -- and no claim is out
   pub none_out : At (4 ∷ 5 ∷ 7 ∷ []) ended.status (out (reverse ended.journal) ≡ [])
   -- the history is legal: each reply is the one that the entries before it give
@@ -55,7 +56,7 @@ pub record IsEndOf (loading : Result Loaded Refused) (old new : Option (List ℕ
   -- the status is 0 exactly where the text ends with `end pass`, else 1
   pub verdict : At (0 ∷ 1 ∷ []) ended.status (IfOk loading (λ l. ended.status ≡ (if ends_pass (output l ended.journal) then 0 else 1)))
   -- at 7 the history has come to a call that would be answered Full, and each claim that was out was given back
-  pub full : At (7 ∷ []) ended.status (MatchResult loading (λ l. (meets_full l ≡ true) × (reverse ended.journal ≡ returned (reverse (serial l)))) (λ refused. ⊥))
+  pub full : At (7 ∷ []) ended.status (MatchResult loading (λ l. (meets_full l ≡ true) × (reverse ended.journal ≡ returned l.phases (reverse (serial l)))) (λ refused. ⊥))
   -- its journal then has as many entries as the limit of steps but one, or more
   pub long : At (7 ∷ []) ended.status (16777215 ≤ length ended.journal)
   -- at 2 an input was refused, no step was made, and the line of the refused input was written
@@ -71,8 +72,8 @@ pub record IsRun (held : Option Files) (before after : List Read) (command : Com
   pub inputs : At (0 ∷ 1 ∷ 2 ∷ 4 ∷ 7 ∷ []) ended.status (AreInputs held before after command i)
   -- at 5 too, where a step was made
   pub inputs_in_steps : At (5 ∷ []) ended.status (IfSteps ended.journal ⊤ (AreInputs held before after command i))
-  -- at 3 a read of an input failed, which was the last read
-  pub cut : At (3 ∷ []) ended.status (CameTo IsCut command before after)
+  -- at 3 a read of the input that is named failed, which was the last read
+  pub cut : At (3 ∷ []) ended.status (MatchOption ended.failed ⊥ (CameAt IsCut command before after))
   -- at 5 inputs were read in their turn up to one, of which no read, some or all were made
   pub part : At (5 ∷ []) ended.status (CameTo IsPart command before after)
   pub ends : IsEndOf (loaded_of i) old new ended
@@ -81,6 +82,12 @@ pub record IsRun (held : Option Files) (before after : List Read) (command : Com
 pub record IsUntouched (old new : Option (List ℕ)) (ended : Ended) : Type 0 where
   pub journal : ended.journal ≡ []
   pub written : new ≡ old
+
+-- What is left by words that aren't taken: the status is 6, or 5 where memory was wanting, nothing was read, and nothing done.
+pub record IsIdle (before after : List Read) (old new : Option (List ℕ)) (ended : Ended) : Type 0 where
+  pub status : IsTrue (is_among (5 ∷ 6 ∷ []) ended.status)
+  pub unread : after ≡ before
+  pub untouched : IsUntouched old new ended
 
 -- What the shelf holds stays. At 3 its count of faults has risen, and else it stands still.
 pub record IsShelfAfter (held now : Option Files) (before faults : ℕ) (ended : Ended) : Type 0 where

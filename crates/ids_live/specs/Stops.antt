@@ -2,6 +2,7 @@
 use Rattle.std.specs.Prelude.{◌≡◌, ℕ, ◌≤◌, List, Option, Result, Ok, Err, ⊤}
 use Rattle.shelf_io.specs.Causes.{Rose}
 use Rattle.shelf_io.specs.Pieces.{Files}
+use Rattle.ids_live.specs.declared.refused.Input.{Input}
 use Rattle.ids_live.specs.declared.refused.Refused.{Refused}
 use Rattle.ids_live.specs.declared.stop.Stop.{Stop}
 use Rattle.ids_live.specs.declared.stop.Stop.TheVariants as stop
@@ -11,12 +12,12 @@ use Rattle.ids_live.specs.declared.stop.Stop.TheVariants as stop
 abbrev pub Reads : {I V W : Type 0} → (V → W) → (I → Type 0) → (I → Result W Refused) → Result V Stop → Type 0
 Reads {I} view IsInput read (Ok value) = (i : I) × IsInput i × (read i ≡ Ok (view value))
 Reads {I} view IsInput read (Err (stop.Refused refused)) = (i : I) × IsInput i × (read i ≡ Err refused)
-Reads view IsInput read (Err stop.Shelf) = ⊤
+Reads view IsInput read (Err (stop.Shelf at)) = ⊤
 Reads view IsInput read (Err stop.Memory) = ⊤
 
 -- the fact, where the shelf was at fault
 abbrev pub OnShelf : {V : Type 0} → Result V Stop → Type 0 → Type 0
-OnShelf (Err stop.Shelf) fact = fact
+OnShelf (Err (stop.Shelf at)) fact = fact
 OnShelf (Err stop.Memory) fact = ⊤
 OnShelf (Err (stop.Refused refused)) fact = ⊤
 OnShelf (Ok value) fact = ⊤
@@ -29,13 +30,19 @@ pub record LeavesShelf {V : Type 0} (held now : Option Files) (before faults : �
 
 -- It stopped for a cause outside: no input was refused.
 abbrev pub IsOutside : Stop → Type 0
-IsOutside stop.Shelf = ⊤
+IsOutside (stop.Shelf at) = ⊤
 IsOutside stop.Memory = ⊤
 IsOutside (stop.Refused refused) = ⊥
 
+-- where the shelf was at fault, it was at this input
+abbrev pub IsAt : Input → Stop → Type 0
+IsAt input (stop.Shelf at) = at ≡ input
+IsAt input stop.Memory = ⊤
+IsAt input (stop.Refused refused) = ⊤
+
 -- the fact, unless the shelf was at fault
 abbrev pub UnlessShelf : {V : Type 0} → Result V Stop → Type 0 → Type 0
-UnlessShelf (Err stop.Shelf) fact = ⊤
+UnlessShelf (Err (stop.Shelf at)) fact = ⊤
 UnlessShelf (Err stop.Memory) fact = fact
 UnlessShelf (Err (stop.Refused refused)) fact = fact
 UnlessShelf (Ok value) fact = fact
@@ -49,7 +56,7 @@ pub record StaysSteady {V : Type 0} (steady after : List ℕ → Type 0) (before
 
 -- One thing is so where the shelf was at fault, and another where memory was wanting.
 abbrev pub Stopped : {V : Type 0} → Type 0 → Type 0 → Result V Stop → Type 0
-Stopped cut part (Err stop.Shelf) = cut
+Stopped cut part (Err (stop.Shelf at)) = cut
 Stopped cut part (Err stop.Memory) = part
 Stopped cut part (Err (stop.Refused refused)) = ⊤
 Stopped cut part (Ok value) = ⊤

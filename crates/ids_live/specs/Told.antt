@@ -6,7 +6,7 @@ use Rattle.shelf_io.specs.Pieces.{Files, file_told}
 use Rattle.ids_live.specs.declared.refused.Input.{Input}
 use Rattle.ids_live.specs.Forms.{IsReached}
 use Rattle.ids_live.specs.Inputs.{Inputs, bytes_of, name_of, limit_of}
-use Rattle.ids_live.specs.Words.{Command}
+use Rattle.command_line.specs.Words.{Command}
 
 -- an input's bytes, or None where they are more than the limit
 abbrev pub within : ℕ → List ℕ → Option (List ℕ)

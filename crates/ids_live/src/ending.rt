@@ -1,3 +1,4 @@
+use crate::refused::Input;
 use audit_core::CoreJournal;
 
 /// How a run ended.
@@ -10,4 +11,6 @@ pub struct Ended {
     pub journal: CoreJournal,
     /// How many workers ended for want of memory: none, since a serial run has none.
     pub lapsed: u32,
+    /// At 3 the input at which the shelf failed.
+    pub failed: Option<Input>,
 }

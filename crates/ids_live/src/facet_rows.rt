@@ -31,7 +31,7 @@ const UNDECLARED: &str = "{\"specifications\":[{\"name\":\"walls\",\"ifcVersion\
      \"requirements\":[{\"facet\":\"entity\",\"name\":{\"simpleValue\":\"IFCWALL\"}}]}]}";
 
 /// Each wall has a fire rating of REI60.
-const FIRE_RATING: &str = "{\"specifications\":[{\"name\":\"walls\",\"ifcVersion\":[\"IFC4\"],\
+pub const FIRE_RATING: &str = "{\"specifications\":[{\"name\":\"walls\",\"ifcVersion\":[\"IFC4\"],\
      \"applicability\":{\"minOccurs\":\"0\",\"maxOccurs\":\"unbounded\",\
      \"facets\":[{\"facet\":\"entity\",\"name\":{\"simpleValue\":\"IFCWALL\"}}]},\
      \"requirements\":[{\"facet\":\"property\",\"dataType\":\"IFCLABEL\",\

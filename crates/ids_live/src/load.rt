@@ -2,7 +2,7 @@
 ghost use Rattle.std.specs.Prelude.{◌≡◌, ◌<◌, [], IfOk, IfErr};
 ghost use Rattle.std.specs.Str.{chars};
 ghost use Rattle.audit_model.specs.Models.{IsModel};
-ghost use Rattle.script_rules.specs.ScriptOrder.{AreOrderly};
+ghost use Rattle.script_rules.specs.Order.{AreOrderly};
 ghost use Rattle.audit_model.specs.Specifications.{AreSpecifications};
 ghost use Rattle.reading.specs.Lines.{Answers};
 ghost use Rattle.shelf_io.specs.Pieces.{IsMissing};
@@ -10,7 +10,7 @@ ghost use Rattle.ids_live.specs.Forms.{past_mark, limits, schema_of, specs_of, m
 ghost use Rattle.ids_live.specs.Forms.{schema_read, specs_read, model_read, script_read};
 ghost use Rattle.ids_live.specs.Inputs.{limit, model_limit};
 ghost use Rattle.ids_live.specs.Reading.{IsCut, IsPart, IsInput};
-ghost use Rattle.ids_live.specs.Stops.{Reads, LeavesShelf, StaysSteady, IsOutside, Stopped};
+ghost use Rattle.ids_live.specs.Stops.{Reads, LeavesShelf, StaysSteady, IsAt, IsOutside, Stopped};
 
 use crate::refused::{Input, Refused};
 use crate::stop::Stop;
@@ -19,10 +19,10 @@ use audit_model::{Limits, Phases, Specification, Specifications};
 use express_decl::read_declarations;
 use ids_reader::read_ids;
 use ifc_base::{Bytes, Name, Refusal};
-use narrow_forms::read_script;
 use p21_read::read_file;
 use schema_table::SchemaTable;
-use shelf_io::{Shelf, read_all};
+use script_read::{Script, read_script};
+use shelf_io::{Failed, Shelf, read_all};
 use std::alloc::Global;
 
 /// The most bytes of the model file.
@@ -44,8 +44,9 @@ pub fn load_schema<S: Shelf>(alloc: Global, shelf: &mut S, name: &str) -> Result
         schema_read result }
     ensures stopped { Stopped (IsCut name.now limit (S.reads shelf.old) (S.reads shelf.new))
         (IsPart name.now limit (S.reads shelf.old) (S.reads shelf.new)) result }
+    ensures at { IfErr result (IsAt Input.Schema) }
 {
-    let Some(bytes) = whole_input(alloc, shelf, name, LIMIT)? else {
+    let Some(bytes) = whole_input(alloc, shelf, Input::Schema, name, LIMIT)? else {
         return Err(Stop::Refused(Refused::TooLong(Input::Schema)));
     };
     match table_of(alloc, past_mark(bytes.as_slice())) {
@@ -87,9 +88,10 @@ pub fn load_specs<S: Shelf>(
         (specs_read schema.now) result }
     ensures stopped { Stopped (IsCut name.now limit (S.reads shelf.old) (S.reads shelf.new))
         (IsPart name.now limit (S.reads shelf.old) (S.reads shelf.new)) result }
+    ensures at { IfErr result (IsAt Input.Specs) }
     ensures numbered { IfOk result AreSpecifications }
 {
-    let Some(bytes) = whole_input(alloc, shelf, name, LIMIT)? else {
+    let Some(bytes) = whole_input(alloc, shelf, Input::Specs, name, LIMIT)? else {
         return Err(Stop::Refused(Refused::TooLong(Input::Specs)));
     };
     match specifications_of(alloc, past_mark(bytes.as_slice()), schema) {
@@ -134,13 +136,14 @@ pub fn load_model<'a, S: Shelf>(
         (model_read schema.now specs.now) result }
     ensures stopped { Stopped (IsCut name.now model_limit (S.reads shelf.old) (S.reads shelf.new))
         (IsPart name.now model_limit (S.reads shelf.old) (S.reads shelf.new)) result }
+    ensures at { IfErr result (IsAt Input.Model) }
     ensures history { IfOk result (λ core. core.history ≡ []) }
     ensures model { IfOk result (λ core. IsModel core.ground.first) }
     ensures schema { IfOk result (λ core. core.ground.schema ≡ schema.now) }
     ensures specs { IfOk result (λ core. core.ground.specs ≡ specs.now) }
     ensures limits { IfOk result (λ core. core.ground.limits ≡ limits) }
 {
-    let Some(bytes) = whole_input(alloc, shelf, name, MODEL_LIMIT)? else {
+    let Some(bytes) = whole_input(alloc, shelf, Input::Model, name, MODEL_LIMIT)? else {
         return Err(Stop::Refused(Refused::TooLong(Input::Model)));
     };
     match core_of(alloc, past_mark(bytes.as_slice()), schema, specs) {
@@ -178,7 +181,7 @@ fn core_of<'a>(
     }
 }
 
-/// The phases of the script, whose lines are of editor 1 and may come in their order.
+/// The phases of the script, in which the lines of each editor may come in their order.
 pub fn load_script<S: Shelf>(alloc: Global, shelf: &mut S, name: &str) -> Result<Phases, Stop>
     ensures shelf { LeavesShelf (S.held shelf.old) (S.held shelf.new) (S.faults shelf.old)
         (S.faults shelf.new) result }
@@ -188,9 +191,10 @@ pub fn load_script<S: Shelf>(alloc: Global, shelf: &mut S, name: &str) -> Result
         script_read result }
     ensures stopped { Stopped (IsCut name.now limit (S.reads shelf.old) (S.reads shelf.new))
         (IsPart name.now limit (S.reads shelf.old) (S.reads shelf.new)) result }
-    ensures order { IfOk result (AreOrderly 1) }
+    ensures at { IfErr result (IsAt Input.Script) }
+    ensures order { IfOk result AreOrderly }
 {
-    let Some(bytes) = whole_input(alloc, shelf, name, LIMIT)? else {
+    let Some(bytes) = whole_input(alloc, shelf, Input::Script, name, LIMIT)? else {
         return Err(Stop::Refused(Refused::TooLong(Input::Script)));
     };
     match phases_of(alloc, past_mark(bytes.as_slice())) {
@@ -204,10 +208,10 @@ pub fn load_script<S: Shelf>(alloc: Global, shelf: &mut S, name: &str) -> Result
 #[tactic(auto, unfolding(crate::specs::Forms::script_of))]
 fn phases_of(alloc: Global, text: &[u8]) -> Result<Phases, Refusal<Refused>>
     ensures read { Answers (λ phases. phases) result (script_of text.now) }
-    ensures order { IfOk result (AreOrderly 1) }
+    ensures order { IfOk result AreOrderly }
 {
     match read_script(alloc, text) {
-        Ok(phases) => Ok(phases),
+        Ok(Script { phases }) => Ok(phases),
         Err(Refusal::Fault(fault)) => Err(Refusal::Fault(Refused::InScript(fault))),
         Err(Refusal::Memory) => Err(Refusal::Memory),
     }
@@ -218,6 +222,7 @@ fn phases_of(alloc: Global, text: &[u8]) -> Result<Phases, Refusal<Refused>>
 fn whole_input<S: Shelf>(
     alloc: Global,
     shelf: &mut S,
+    input: Input,
     name: &str,
     most: usize,
 ) -> Result<Option<Bytes>, Stop>
@@ -231,8 +236,13 @@ fn whole_input<S: Shelf>(
     ensures stopped { Stopped (IsCut name.now most (S.reads shelf.old) (S.reads shelf.new))
         (IsPart name.now most (S.reads shelf.old) (S.reads shelf.new)) result }
     ensures outside { IfErr result IsOutside }
+    ensures at { IfErr result (IsAt input) }
 {
-    let bytes = read_all(alloc, shelf, name, most + 1)?;
+    let bytes = match read_all(alloc, shelf, name, most + 1) {
+        Ok(bytes) => bytes,
+        Err(Refusal::Fault(Failed)) => return Err(Stop::Shelf(input)),
+        Err(Refusal::Memory) => return Err(Stop::Memory),
+    };
     if bytes.as_slice().len() > most {
         return Ok(None);
     }

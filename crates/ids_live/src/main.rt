@@ -3,10 +3,13 @@
 //! specifications.
 #![tactic(auto)]
 
+#[cfg(test)]
+mod editor_rows;
 mod ending;
 #[cfg(test)]
 mod facet_rows;
 mod load;
+mod message;
 mod play;
 mod refused;
 #[cfg(test)]
@@ -17,29 +20,29 @@ mod tests;
 #[cfg(test)]
 mod texts;
 mod top;
-mod words;
 
+use crate::message::tell;
 use crate::top::run_serial;
 use shelf_io::{FileShelf, OutSink};
 use std::alloc::AllocError;
 use std::process::ExitCode;
 use std::{env, io};
 
-/// What is told on standard error where the words aren't taken.
-const USAGE: &str = "usage: ids_live replay SCHEMA SPECS MODEL SCRIPT";
-
 /// Runs the command that the words name, over the files of the system and standard output, and ends
-/// with its status.
+/// with its status. Standard error is told in one line what happened where the status is from 3 to 7.
 fn main(rt: HostRuntime) -> ExitCode {
-    let status = match words_given(&rt) {
-        Ok(words) => run(&rt, &words).unwrap_or(5),
-        Err(error) if error.kind() == io::ErrorKind::OutOfMemory => 5,
-        Err(_) => 6,
-    };
-    if status == 6 {
-        let _ = eprintln!(rt; "{USAGE}");
+    match words_given(&rt) {
+        Ok(words) => ExitCode::from(run(&rt, &words)),
+        Err(error) => {
+            let status = if error.kind() == io::ErrorKind::OutOfMemory {
+                5
+            } else {
+                6
+            };
+            tell(&rt, &[], status, None);
+            ExitCode::from(status)
+        }
     }
-    ExitCode::from(status)
 }
 
 /// The words behind the program's name. One that isn't UTF-8 is an error.
@@ -52,8 +55,19 @@ fn words_given(rt: &HostRuntime) -> io::Result<Vec<String>> {
 }
 
 /// The status of the run over the files of the system and standard output.
-fn run(rt: &HostRuntime, words: &[String]) -> Result<u8, AllocError> {
-    let mut shelf = FileShelf::new(rt.clone()?);
-    let mut out = OutSink::new(rt.clone()?);
-    Ok(run_serial(rt.alloc(), words, &mut shelf, &mut out).status)
+fn run(rt: &HostRuntime, words: &[String]) -> u8 {
+    let (status, failed) = match outside(rt) {
+        Ok((mut shelf, mut out)) => {
+            let ended = run_serial(rt.alloc(), words, &mut shelf, &mut out);
+            (ended.status, ended.failed)
+        }
+        Err(_) => (5, None),
+    };
+    tell(rt, words, status, failed);
+    status
+}
+
+/// The files of the system and standard output.
+fn outside(rt: &HostRuntime) -> Result<(FileShelf, OutSink), AllocError> {
+    Ok((FileShelf::new(rt.clone()?), OutSink::new(rt.clone()?)))
 }

@@ -1,5 +1,5 @@
 //! The run over inputs that were read, and the line of a refused one.
-ghost use Rattle.std.specs.Prelude.{◌≡◌, [], ◌∷◌, Ok, Err, IsTrue, length};
+ghost use Rattle.std.specs.Prelude.{◌≡◌, [], ◌∷◌, None, Some, Ok, Err, IsTrue, length};
 ghost use Rattle.ids_live.specs.Complete.{wanted};
 ghost use Rattle.ids_live.specs.Fitness.{IsFit};
 ghost use Rattle.ids_live.specs.Forms.{loaded};
@@ -7,12 +7,13 @@ ghost use Rattle.ids_live.specs.Run.{At, IsEndOf, IsSinkAfter, is_among};
 ghost use Rattle.ids_live.specs.Steps.{status_at};
 
 use crate::ending::Ended;
-use crate::refused::{Refused, refused_line};
+use crate::refused::{Input, Refused, refused_line};
 use audit_core::{Core, CoreJournal};
 use audit_model::{Limits, Phases, Specification};
 use pair_eval::Evaluator;
 use schema_table::SchemaTable;
-use serial_run::{End, full_is_long, run_script, script_is_phased, stop_is_phased};
+use script_rules::full_is_long;
+use serial_run::{End, run_script};
 use shelf_io::{Sink, write_all};
 use std::alloc::Global;
 
@@ -36,9 +37,8 @@ pub fn play<K: Sink>(
     ensures sure { At (4 ∷ []) result.status
         (K.sure out.old (length (wanted (loaded core.entry.ground (Ok phases)))) → ⊥) }
     ensures lapsed { result.lapsed ≡ 0 }
+    ensures failed { result.failed ≡ None }
 {
-    script_is_phased();
-    stop_is_phased();
     full_is_long();
     let evaluator = Evaluator { schema, specs };
     let ran = run_script(alloc, core, &evaluator, &Limits::STANDARD, phases, out);
@@ -46,6 +46,7 @@ pub fn play<K: Sink>(
         status: status_of(ran.end),
         journal: ran.journal,
         lapsed: 0,
+        failed: None,
     }
 }
 
@@ -69,6 +70,7 @@ pub fn refuse<K: Sink>(alloc: Global, out: &mut K, refused: &Refused) -> Ended
     ensures ends { IsEndOf (Err refused.now) (K.written out.old) (K.written out.new) result }
     ensures sure { At (4 ∷ []) result.status (K.sure out.old (length (wanted (Err refused.now))) → ⊥) }
     ensures lapsed { result.lapsed ≡ 0 }
+    ensures failed { result.failed ≡ None }
 {
     let Ok(line) = refused_line(alloc, refused) else {
         return ended(alloc, 5);
@@ -84,10 +86,27 @@ pub fn ended(alloc: Global, status: u8) -> Ended
     ensures status { result.status ≡ status }
     ensures journal { result.journal ≡ [] }
     ensures lapsed { result.lapsed ≡ 0 }
+    ensures failed { result.failed ≡ None }
 {
     Ended {
         status,
         journal: CoreJournal::empty(alloc),
         lapsed: 0,
+        failed: None,
+    }
+}
+
+/// The end of a run whose shelf failed at this input.
+pub fn cut_at(alloc: Global, input: Input) -> Ended
+    ensures status { result.status ≡ 3 }
+    ensures journal { result.journal ≡ [] }
+    ensures lapsed { result.lapsed ≡ 0 }
+    ensures failed { result.failed ≡ Some input }
+{
+    Ended {
+        status: 3,
+        journal: CoreJournal::empty(alloc),
+        lapsed: 0,
+        failed: Some(input),
     }
 }

@@ -1,16 +1,16 @@
 ghost use Rattle.std.specs.Prelude.{◌≡◌, ◌++◌, codes, encode_utf8_all, IfOk, OnOk};
 ghost use Rattle.std.specs.Fmt.{decimal};
-ghost use Rattle.ids_live.specs.Lines.{input_word, decl_word, ids_word, p21_word};
+ghost use Rattle.ids_live.specs.Lines.{input_word, decl_word, ids_word, p21_word, script_word};
 ghost use Rattle.ids_live.specs.Lines.{instance_word, schema_words, model_words, refused_line};
 
 use audit_core::ModelFault;
 use express_decl::{DeclCause, DeclFault};
 use ids_reader::{IdsCause, IdsFault};
 use ifc_base::{Bytes, Memory, Name};
-use narrow_forms::LineFault;
 use p21_read::{P21Cause, P21Fault};
 use report_text::{push_decimal, push_text};
 use schema_table::{InstanceFault, SchemaFault};
+use script_read::{ScriptCause, ScriptFault};
 use std::alloc::Global;
 
 /// One of the four inputs.
@@ -36,7 +36,7 @@ pub enum Refused {
     InFile(P21Fault),
     /// The model of the file doesn't fit the schema.
     InModel(ModelFault),
-    InScript(LineFault),
+    InScript(ScriptFault),
 }
 
 /// The line of a refused input, which is all that the run writes.
@@ -67,7 +67,12 @@ pub fn refused_line(alloc: Global, refused: &Refused) -> Result<Bytes, Memory>
         }
         Refused::InModel(fault) => push_model_fault(&mut line, fault)?,
         Refused::InScript(fault) => {
-            push_line(&mut line, "refused script line ", fault.line, " NotBuilt\n")?;
+            push_line(
+                &mut line,
+                "refused script line ",
+                fault.line,
+                script_word(fault.why),
+            )?;
         }
     }
     Ok(Bytes::from_vec(line))
@@ -207,5 +212,20 @@ fn instance_word(fault: &InstanceFault) -> &'static str
         InstanceFault::AbstractEntity { .. } => " AbstractEntity\n",
         InstanceFault::ParamCount { .. } => " ParamCount\n",
         InstanceFault::MisplacedDerived { .. } => " MisplacedDerived\n",
+    }
+}
+
+fn script_word(cause: ScriptCause) -> &'static str
+    ensures { result.now ≡ script_word cause }
+{
+    match cause {
+        ScriptCause::BadLine => " BadLine\n",
+        ScriptCause::TooManyActors => " TooManyActors\n",
+        ScriptCause::Holding => " Holding\n",
+        ScriptCause::NotHolding => " NotHolding\n",
+        ScriptCause::DraftOpen => " DraftOpen\n",
+        ScriptCause::NoDraft => " NoDraft\n",
+        ScriptCause::TooManyEdits => " TooManyEdits\n",
+        ScriptCause::NoSync => " NoSync\n",
     }
 }

@@ -48,7 +48,7 @@ pub const ROWS: [Row; 29] = [
         lines: TWO_WALLS,
         script: "\u{feff}\u{feff}sync",
         status: 2,
-        text: "refused script line 1 NotBuilt\n",
+        text: "refused script line 1 BadLine\n",
         entries: 0,
     },
     Row {
@@ -228,7 +228,7 @@ pub const ROWS: [Row; 29] = [
         lines: TWO_WALLS,
         script: "take\nsync\n",
         status: 2,
-        text: "refused script line 2 NotBuilt\n",
+        text: "refused script line 2 Holding\n",
         entries: 0,
     },
     Row {
@@ -238,7 +238,7 @@ pub const ROWS: [Row; 29] = [
         lines: TWO_WALLS,
         script: "commit\nsync\n",
         status: 2,
-        text: "refused script line 1 NotBuilt\n",
+        text: "refused script line 1 NoDraft\n",
         entries: 0,
     },
     Row {
@@ -248,7 +248,7 @@ pub const ROWS: [Row; 29] = [
         lines: TWO_WALLS,
         script: "open\n",
         status: 2,
-        text: "refused script line 2 NotBuilt\n",
+        text: "refused script line 2 NoSync\n",
         entries: 0,
     },
     Row {
@@ -258,7 +258,7 @@ pub const ROWS: [Row; 29] = [
         lines: TWO_WALLS,
         script: "",
         status: 2,
-        text: "refused script line 1 NotBuilt\n",
+        text: "refused script line 1 NoSync\n",
         entries: 0,
     },
     Row {
@@ -404,4 +404,37 @@ pub const FILES: [(&str, &str); 4] = [
          FILE_SCHEMA(('IFC2X3'));\nENDSEC;\nDATA;\n#10=IFCWALL('a');\nENDSEC;\nEND-ISO-10303-21;\n",
         "refused model OtherSchema\n",
     ),
+];
+
+/// Words that the command takes, as `replay S Q M T`: a `--` behind the subcommand ends the options.
+pub const TAKEN: [&str; 5] = [
+    "replay S Q M T",
+    "replay -- S Q M T",
+    "replay S -- Q M T",
+    "replay S Q M -- T",
+    "replay S Q M T --",
+];
+
+/// Words that it doesn't take: no subcommand or another one, too few and too many inputs, options, and
+/// calls for help and the version.
+pub const UNTAKEN: [&str; 19] = [
+    "",
+    "S Q M T",
+    "replay",
+    "replay S Q M",
+    "replay S Q M T T",
+    "Replay S Q M T",
+    "replays S Q M T",
+    "play S Q M T",
+    "live S Q M T",
+    "-- replay S Q M T",
+    "replay S Q M T -t",
+    "replay S Q M T --workers 2",
+    "replay --schema=S Q M T",
+    "--help",
+    "-h",
+    "help",
+    "replay --help",
+    "--version",
+    "-V",
 ];

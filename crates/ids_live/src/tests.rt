@@ -1,5 +1,7 @@
+use crate::editor_rows::EDITORS;
 use crate::facet_rows::{FACETS, RELATED, RELATED_WALLS, RELATIONS, ROLES};
-use crate::rows::{FILES, MODELS, ROWS, Row, SCHEMAS};
+use crate::refused::Input;
+use crate::rows::{FILES, MODELS, ROWS, Row, SCHEMAS, TAKEN, UNTAKEN};
 use crate::run_serial;
 use crate::texts::{FOOT, HEADER, PASS, SCHEMA, TWO_WALLS, WALLS};
 use ifc_base::{Bytes, Memory, Name, Numbers};
@@ -100,6 +102,9 @@ fn runs_end_as_told(rt: HostRuntime) -> Result<(), Fail> {
     for row in FACETS {
         expect_row(&rt, rt.alloc(), &row)?;
     }
+    for row in EDITORS {
+        expect_row(&rt, rt.alloc(), &row)?;
+    }
     Ok(())
 }
 
@@ -195,23 +200,56 @@ fn too_many_attributes(rt: HostRuntime) -> Result<(), Fail> {
     )
 }
 
+/// The words of a line, which a blank parts.
+fn words_of(alloc: Global, line: &str) -> Result<Vec<String>, Memory> {
+    let mut words = Vec::new(alloc);
+    for word in line.split(' ') {
+        words.push(String::from_str(alloc, word)?)?;
+    }
+    Ok(words)
+}
+
 /// A run of these words over a shelf whose first read would fail.
-fn expect_untaken<R: Abort>(rt: &R, alloc: Global, words: &[String]) -> Result<(), Fail> {
+fn expect_untaken<R: Abort>(
+    rt: &R,
+    alloc: Global,
+    words: &[String],
+    line: &str,
+) -> Result<(), Fail> {
     let mut shelf = shelf(alloc, SCHEMA, WALLS, "", "", "S", 1)?;
     let mut sink = MemSink::new(alloc, 0, 1, Numbers::new(alloc))?;
     let ended = run_serial(alloc, words, &mut shelf, &mut sink);
-    assert_eq!(rt; ended.status, 6);
+    assert_eq!(rt; ended.status, 6, "{line}");
     Ok(())
 }
 
 #[test]
 fn words_not_taken(rt: HostRuntime) -> Result<(), Fail> {
-    let mut words = words(rt.alloc(), "live")?;
-    expect_untaken(&rt, rt.alloc(), &words)?;
-    words.pop();
-    expect_untaken(&rt, rt.alloc(), &words)?;
-    words.clear();
-    expect_untaken(&rt, rt.alloc(), &words)?;
+    for line in UNTAKEN {
+        let words = words_of(rt.alloc(), line)?;
+        expect_untaken(&rt, rt.alloc(), &words, line)?;
+    }
+    let none: Vec<String> = Vec::new(rt.alloc());
+    expect_untaken(&rt, rt.alloc(), &none, "no words")
+}
+
+/// A run of these words ends well.
+fn expect_taken<R: Abort>(rt: &R, alloc: Global, line: &str) -> Result<(), Fail> {
+    let walls = model(alloc, TWO_WALLS)?;
+    let mut shelf = shelf(alloc, SCHEMA, WALLS, walls.as_str(), "sync", "", 0)?;
+    let mut sink = MemSink::new(alloc, 200, 200, Numbers::new(alloc))?;
+    let words = words_of(alloc, line)?;
+    let ended = run_serial(alloc, &words, &mut shelf, &mut sink);
+    assert_eq!(rt; ended.status, 0, "{line}");
+    assert_eq!(rt; sink.bytes(), PASS.as_bytes(), "{line}");
+    Ok(())
+}
+
+#[test]
+fn words_taken(rt: HostRuntime) -> Result<(), Fail> {
+    for line in TAKEN {
+        expect_taken(&rt, rt.alloc(), line)?;
+    }
     Ok(())
 }
 
@@ -221,6 +259,7 @@ struct End {
     status: u8,
     text: &'static str,
     entries: usize,
+    failed: Option<Input>,
 }
 
 /// The run ends so where the read of this number of this input fails.
@@ -237,6 +276,7 @@ fn expect_end_of_reads<R: Abort>(
     let words = words(alloc, "replay")?;
     let ended = run_serial(alloc, &words, &mut shelf, &mut sink);
     assert_eq!(rt; ended.status, end.status, "{name} {number}");
+    assert_eq!(rt; ended.failed, end.failed, "{name} {number}");
     assert_eq!(rt; sink.bytes(), end.text.as_bytes(), "{name} {number}");
     assert_eq!(rt; ended.journal.steps().as_slice().len(), end.entries);
     Ok(())
@@ -246,17 +286,24 @@ fn expect_end_of_reads<R: Abort>(
 /// A third isn't made, and so its failure does nothing.
 #[test]
 fn shelf_fails(rt: HostRuntime) -> Result<(), Fail> {
-    let failed = End {
-        status: 3,
-        text: "",
-        entries: 0,
-    };
     let passed = End {
         status: 0,
         text: PASS,
         entries: 6,
+        failed: None,
     };
-    for name in ["S", "Q", "M", "T"] {
+    for (name, input) in [
+        ("S", Input::Schema),
+        ("Q", Input::Specs),
+        ("M", Input::Model),
+        ("T", Input::Script),
+    ] {
+        let failed = End {
+            status: 3,
+            text: "",
+            entries: 0,
+            failed: Some(input),
+        };
         expect_end_of_reads(&rt, rt.alloc(), name, 1, &failed)?;
         expect_end_of_reads(&rt, rt.alloc(), name, 2, &failed)?;
         expect_end_of_reads(&rt, rt.alloc(), name, 3, &passed)?;
@@ -297,6 +344,7 @@ fn sink_fails(rt: HostRuntime) -> Result<(), Fail> {
         status: 0,
         text: PASS,
         entries: 6,
+        failed: None,
     };
     for (most, calls) in [(1usize, 52u32), (7, 8), (10, 6), (200, 1)] {
         for before in 0..calls {
@@ -311,10 +359,11 @@ fn sink_fails(rt: HostRuntime) -> Result<(), Fail> {
 fn sink_fails_at_a_refusal(rt: HostRuntime) -> Result<(), Fail> {
     let refused = End {
         status: 2,
-        text: "refused script line 1 NotBuilt\n",
+        text: "refused script line 1 NoSync\n",
         entries: 0,
+        failed: None,
     };
-    for (most, calls) in [(1usize, 31u32), (7, 5), (200, 1)] {
+    for (most, calls) in [(1usize, 29u32), (7, 5), (200, 1)] {
         for before in 0..calls {
             expect_sink_fault(&rt, rt.alloc(), "", &refused, most, before)?;
         }

@@ -1,25 +1,28 @@
-ghost use Rattle.std.specs.Prelude.{◌≡◌, ◌<◌, ◌↔◌, [], ◌∷◌, None, map, length, string_bytes, IfErr, IfOk, IfSome, IsTrue};
+ghost use Rattle.std.specs.Prelude.{◌≡◌, ◌<◌, [], ◌∷◌, None, false, map, length, string_bytes, IfErr, IfOk, IfSome, IsTrue};
+ghost use Rattle.clap.specs.Words.{takes};
 ghost use Rattle.shelf_io.specs.Causes.{Rose};
 ghost use Rattle.ids_live.specs.Course.{IsPast, Replays};
 ghost use Rattle.ids_live.specs.Forms.{loaded_of};
 ghost use Rattle.ids_live.specs.Inputs.{Inputs};
 ghost use Rattle.ids_live.specs.Reading.{AreInputs};
-ghost use Rattle.ids_live.specs.Run.{At, IsRun, IsUntouched, IsShelfAfter, IsSinkAfter, is_among};
+ghost use Rattle.ids_live.specs.Run.{At, IsRun, IsIdle, IsUntouched, IsShelfAfter, IsSinkAfter, is_among};
 ghost use Rattle.ids_live.specs.Stops.{LeavesShelf, StaysSteady};
 ghost use Rattle.ids_live.specs.Complete.{IsComplete, IsSure, wanted};
 ghost use Rattle.ids_live.specs.Told.{AreTold, AreSteady, IsUnsteady};
-ghost use Rattle.ids_live.specs.Words.{command_of, command_shown};
+ghost use Rattle.command_line.specs.Words.{command_of, names_shown, line_app};
 
 use crate::ending::Ended;
 use crate::load::{load_model, load_schema, load_script, load_specs};
-use crate::play::{ended, play, refuse};
+use crate::play::{cut_at, ended, play, refuse};
 use crate::stop::Stop;
-use crate::words::{Names, names_in};
+use command_line::{Names, NotTaken, command_in};
+use ifc_base::Refusal;
 use shelf_io::{Shelf, Sink};
 use std::alloc::Global;
 
 /// Runs a command: `replay` and the names of a schema, specifications, a model and a script. The words
-/// don't hold the program's name. It reads the inputs in their turn, each once: whole, or one byte past
+/// don't hold the program's name; the status is 6 only where `clap` doesn't take them, and nothing is
+/// done then. It reads the inputs in their turn, each once: whole, or one byte past
 /// its limit, up to the first that is refused or fails; and nothing else. It runs the script on the
 /// model, and writes phase by phase what the editor is told and the report, or the line of the refused
 /// input. It waits for nobody and always returns.
@@ -34,7 +37,10 @@ pub fn run_serial<H: Shelf, O: Sink>(
     out: &mut O,
 ) -> Ended
     ensures status { result.status < 8 }
-    ensures words { (result.status ≡ 6) ↔ (command_of (map string_bytes words.now) ≡ None) }
+    ensures words { At (6 ∷ []) result.status ((command_of (map string_bytes words.now) ≡ None)
+        × (takes line_app (map string_bytes words.now) ≡ false)) }
+    ensures idle { command_of (map string_bytes words.now) ≡ None → IsIdle (H.reads shelf.old) (H.reads shelf.new)
+        (O.written out.old) (O.written out.new) result }
     ensures shelf { IsShelfAfter (H.held shelf.old) (H.held shelf.new) (H.faults shelf.old)
         (H.faults shelf.new) result }
     ensures sink { IsSinkAfter (O.faults out.old) (O.faults out.new) result }
@@ -53,6 +59,7 @@ pub fn run_serial<H: Shelf, O: Sink>(
         (O.sure out.old (length (wanted (loaded_of inputs)))) (H.faults shelf.new ≡ H.faults shelf.old)
         (O.faults out.new ≡ O.faults out.old) result.status) }
     ensures lapsed { result.lapsed ≡ 0 }
+    ensures failed { At (0 ∷ 1 ∷ 2 ∷ 4 ∷ 5 ∷ 6 ∷ 7 ∷ []) result.status (result.failed ≡ None) }
 {
     run(alloc, words, shelf, out)
 }
@@ -60,7 +67,10 @@ pub fn run_serial<H: Shelf, O: Sink>(
 /// The run, in all but what follows from its clauses.
 fn run<H: Shelf, O: Sink>(alloc: Global, words: &[String], shelf: &mut H, out: &mut O) -> Ended
     ensures status { result.status < 8 }
-    ensures words { (result.status ≡ 6) ↔ (command_of (map string_bytes words.now) ≡ None) }
+    ensures words { At (6 ∷ []) result.status ((command_of (map string_bytes words.now) ≡ None)
+        × (takes line_app (map string_bytes words.now) ≡ false)) }
+    ensures idle { command_of (map string_bytes words.now) ≡ None → IsIdle (H.reads shelf.old) (H.reads shelf.new)
+        (O.written out.old) (O.written out.new) result }
     ensures shelf { IsShelfAfter (H.held shelf.old) (H.held shelf.new) (H.faults shelf.old)
         (H.faults shelf.new) result }
     ensures sink { IsSinkAfter (O.faults out.old) (O.faults out.new) result }
@@ -75,14 +85,37 @@ fn run<H: Shelf, O: Sink>(alloc: Global, words: &[String], shelf: &mut H, out: &
         × At (4 ∷ []) result.status (AreInputs (H.held shelf.old) (H.reads shelf.old) (H.reads shelf.new) command inputs
         × (O.sure out.old (length (wanted (loaded_of inputs))) → ⊥))) }
     ensures lapsed { result.lapsed ≡ 0 }
+    ensures failed { At (0 ∷ 1 ∷ 2 ∷ 4 ∷ 5 ∷ 6 ∷ 7 ∷ []) result.status (result.failed ≡ None) }
 {
-    let Some(names) = names_in(words) else {
-        return ended(alloc, 6);
-    };
+    match command_in(alloc, words) {
+        Ok(command) => run_replay(alloc, shelf, out, command.names()),
+        Err(Refusal::Fault(NotTaken)) => ended(alloc, 6),
+        Err(Refusal::Memory) => ended(alloc, 5),
+    }
+}
+
+/// Runs the script on the model, over the inputs of these names.
+fn run_replay<H: Shelf, O: Sink>(alloc: Global, shelf: &mut H, out: &mut O, names: Names) -> Ended
+    ensures status { result.status < 8 }
+    ensures taken { result.status ≡ 6 → ⊥ }
+    ensures shelf { IsShelfAfter (H.held shelf.old) (H.held shelf.new) (H.faults shelf.old)
+        (H.faults shelf.new) result }
+    ensures sink { IsSinkAfter (O.faults out.old) (O.faults out.new) result }
+    ensures early { At (3 ∷ []) result.status (IsUntouched (O.written out.old) (O.written out.new) result) }
+    ensures run { (inputs : Inputs) × IsRun (H.held shelf.old) (H.reads shelf.old) (H.reads shelf.new)
+        (names_shown names.entry) (O.written out.old) (O.written out.new) result inputs }
+    ensures steady { At (3 ∷ []) result.status
+        (IsUnsteady (H.held shelf.old) (H.steady shelf.old) (names_shown names.entry)) }
+    ensures sure { (inputs : Inputs) × At (4 ∷ []) result.status
+        (AreInputs (H.held shelf.old) (H.reads shelf.old) (H.reads shelf.new) (names_shown names.entry) inputs
+        × (O.sure out.old (length (wanted (loaded_of inputs))) → ⊥)) }
+    ensures lapsed { result.lapsed ≡ 0 }
+    ensures failed { At (0 ∷ 1 ∷ 2 ∷ 4 ∷ 5 ∷ 6 ∷ 7 ∷ []) result.status (result.failed ≡ None) }
+{
     match replay(alloc, shelf, out, names) {
         Ok(ended) => ended,
         Err(Stop::Refused(refused)) => refuse(alloc, out, &refused),
-        Err(Stop::Shelf) => ended(alloc, 3),
+        Err(Stop::Shelf(input)) => cut_at(alloc, input),
         Err(Stop::Memory) => ended(alloc, 5),
     }
 }
@@ -98,12 +131,13 @@ fn replay<H: Shelf, O: Sink>(
     ensures shelf { LeavesShelf (H.held shelf.old) (H.held shelf.new) (H.faults shelf.old)
         (H.faults shelf.new) result }
     ensures steady { StaysSteady (H.steady shelf.old) (H.steady shelf.new) (H.faults shelf.old)
-        (H.faults shelf.new) (IsUnsteady (H.held shelf.old) (H.steady shelf.old) (command_shown names.entry)) result }
-    ensures replays { Replays (H.held shelf.old) (H.reads shelf.old) (H.reads shelf.new) (command_shown names.entry)
+        (H.faults shelf.new) (IsUnsteady (H.held shelf.old) (H.steady shelf.old) (names_shown names.entry)) result }
+    ensures replays { Replays (H.held shelf.old) (H.reads shelf.old) (H.reads shelf.new) (names_shown names.entry)
         (IsPast (O.written out.old) (O.written out.new) (O.sure out.old)) result }
     ensures status { IfOk result (λ ended. IsTrue (is_among (0 ∷ 1 ∷ 4 ∷ 5 ∷ 7 ∷ []) ended.status)) }
     ensures sink { IfOk result (λ ended. IsSinkAfter (O.faults out.old) (O.faults out.new) ended) }
     ensures lapsed { IfOk result (λ ended. ended.lapsed ≡ 0) }
+    ensures failed { IfOk result (λ ended. ended.failed ≡ None) }
     ensures silent { IfErr result (λ stop. out.new ≡ out.old) }
 {
     let schema = load_schema(alloc, shelf, names.schema)?;

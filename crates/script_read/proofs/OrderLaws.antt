@@ -19,7 +19,7 @@ use Rattle.script_read.specs.declared.read.Script.{Script}
 use Rattle.script_read.specs.Said.{Said, nothing, editor, does, sync, is_editor}
 use Rattle.script_read.specs.Standing.{acts_of, own, draft, holds, editor_of, is_some, phases_of, lines_since, line, phase, editors, somebody_holds, somebody_drafts}
 use Rattle.script_read.specs.Grammar.{MayCome, Come, ReadsScript}
-use Rattle.script_read.specs.Order.{IsOrderly, AreOfEditors, IsOrderlyPhase, AreOrderly}
+use Rattle.script_rules.specs.Order.{IsOrderly, AreOfEditors, IsOrderlyPhase, AreOrderly}
 use Rattle.script_read.proofs.Crews.{from}
 
 -- ---- lines that may come one after another

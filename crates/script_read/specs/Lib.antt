@@ -5,6 +5,5 @@ pub mod LineGrammar
 pub mod Standing
 pub mod Faults
 pub mod Grammar
-pub mod Order
 pub mod Bytes
 pub mod Writing

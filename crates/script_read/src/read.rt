@@ -5,7 +5,7 @@ ghost use Rattle.reading.specs.Lines.{Answers};
 ghost use Rattle.script_read.specs.Faults.{script_reading};
 ghost use Rattle.script_read.specs.Grammar.{ReadsScript};
 ghost use Rattle.script_read.specs.Lines.{cut};
-ghost use Rattle.script_read.specs.Order.{AreOrderly};
+ghost use Rattle.script_rules.specs.Order.{AreOrderly};
 ghost use Rattle.script_read.specs.Writing as spec;
 ghost use Rattle.script_read.specs.declared.read.Script.{Script};
 

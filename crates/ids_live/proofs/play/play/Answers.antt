@@ -8,7 +8,7 @@ returns-clause-sink g c = sink_after c.run_script-ran.result.end _ _ _ c.run_scr
 
 pub returns-clause-ends : goal.returns-clause-ends
 returns-clause-ends g c =
-    play_end (record { ground = c.args.core.ground; phases = c.args.phases }) _ _ c.run_script-ran.result _ c.requires.fit c.script_is_phased.ensures c.stop_is_phased.ensures c.full_is_long.ensures c.run_script-ran.ensures.ran refl c.status_of.ensures
+    play_end (record { ground = c.args.core.ground; phases = c.args.phases }) _ _ c.run_script-ran.result _ c.requires.fit c.full_is_long.ensures c.run_script-ran.ensures.ran refl c.status_of.ensures
 
 pub returns-clause-sure : goal.returns-clause-sure
 returns-clause-sure g c =

@@ -1,32 +1,43 @@
-use Rattle.std.proofs.Common.{refl, ap, Err}
-use Rattle.ids_live.specs.Words.{command_shown}
-use Rattle.ids_live.proofs.Ends.{of_command, early_run, shelf_run, read_run, past_run, written_before, among_played, among_refused, no_fault_of_sink}
+use Rattle.std.proofs.Common.{◌≡◌, ◌∙◌, Option, Some, ap, refl, sym, map, string_bytes}
+use Rattle.command_line.specs.Words.{Command, command_of, names_shown}
+use Rattle.ids_live.proofs.Ends.{of_command, is_taken, at_6, early_6, unread_run, calm_run, steady_run}
 use Rattle.ids_live.proofs.top.run.Goals as goal
 
-pub returns-in-Err-Shelf-clause-run : goal.returns-in-Err-Shelf-clause-run
-returns-in-Err-Shelf-clause-run g c = of_command (command_shown c.in-Some.names) _ c.in-Some.ensures
-    (shelf_run (command_shown c.in-Some.names) _ (g.H.Shelf.reads c.args.shelf.now) (g.H.Shelf.reads c.replay.new.shelf) (g.O.Sink.written c.args.out.now) (g.O.Sink.written c.replay.new.out) c.ended-in-Err-Shelf.result c.ended-in-Err-Shelf.ensures.status
-    (rw c.in-Err-Shelf.field-0-is at c.in-Err-Shelf.ensures.replays))
+pub returns-in-Ok-clause-words : goal.returns-in-Ok-clause-words
+returns-in-Ok-clause-words g c = at_6 c.run_replay.result.status _ c.run_replay.ensures.taken
 
-pub returns-in-Err-Memory-clause-run : goal.returns-in-Err-Memory-clause-run
-returns-in-Err-Memory-clause-run g c = of_command (command_shown c.in-Some.names) _ c.in-Some.ensures
-    (early_run (command_shown c.in-Some.names) _ (g.H.Shelf.reads c.args.shelf.now) (g.H.Shelf.reads c.replay.new.shelf) (g.O.Sink.written c.args.out.now) (g.O.Sink.written c.replay.new.out) c.ended-in-Err-Memory.result c.ended-in-Err-Memory.ensures.journal c.ended-in-Err-Memory.ensures.status
-    (ap g.O.Sink.written c.in-Err-Memory.ensures.silent) (rw c.in-Err-Memory.field-0-is at c.in-Err-Memory.ensures.replays))
+pub returns-in-Ok-clause-idle : goal.returns-in-Ok-clause-idle
+returns-in-Ok-clause-idle g c =
+    let is : command_of (map string_bytes c.args.words.now) ≡ Some (names_shown c.names.result) = c.in-Ok.ensures.taken ∙ ap (λ (command : Command). Some command) (sym c.names.ensures) in
+    is_taken (names_shown c.names.result) _ is
+
+pub returns-in-Ok-clause-early : goal.returns-in-Ok-clause-early
+returns-in-Ok-clause-early g c = early_6 c.run_replay.result.status _ c.run_replay.ensures.taken c.run_replay.ensures.early
+
+pub returns-in-Ok-clause-unread : goal.returns-in-Ok-clause-unread
+returns-in-Ok-clause-unread g c = at_6 c.run_replay.result.status _ c.run_replay.ensures.taken
 
 pub returns-in-Ok-clause-run : goal.returns-in-Ok-clause-run
-returns-in-Ok-clause-run g c = of_command (command_shown c.in-Some.names) _ c.in-Some.ensures
-    (past_run (command_shown c.in-Some.names) (g.H.Shelf.held c.args.shelf.now) (g.H.Shelf.reads c.args.shelf.now) (g.H.Shelf.reads c.replay.new.shelf) (g.O.Sink.written c.args.out.now) (g.O.Sink.written c.replay.new.out) (g.O.Sink.sure c.args.out.now) c.in-Ok.ended
-    c.in-Ok.ensures.replays (among_played c.in-Ok.ended.status c.in-Ok.ensures.status))
+returns-in-Ok-clause-run g c =
+    let is : command_of (map string_bytes c.args.words.now) ≡ Some (names_shown c.names.result) = c.in-Ok.ensures.taken ∙ ap (λ (command : Command). Some command) (sym c.names.ensures) in
+    of_command (names_shown c.names.result) _ is c.run_replay.ensures.run
 
-pub returns-in-Err-Refused-clause-run : goal.returns-in-Err-Refused-clause-run
-returns-in-Err-Refused-clause-run g c = of_command (command_shown c.in-Some.names) _ c.in-Some.ensures
-    (read_run (command_shown c.in-Some.names) (g.H.Shelf.held c.args.shelf.now) (g.H.Shelf.reads c.args.shelf.now) (g.H.Shelf.reads c.replay.new.shelf) (g.O.Sink.written c.args.out.now) (g.O.Sink.written c.refuse.new.out) c.refuse.result (Err c.in-Err-Refused.refused)
-    (rw c.in-Err-Refused.field-0-is at c.in-Err-Refused.ensures.replays)
-    (among_refused c.refuse.result.status c.refuse.ensures.status)
-    (written_before (Err c.in-Err-Refused.refused) (g.O.Sink.written c.args.out.now) (g.O.Sink.written c.replay.new.out) (g.O.Sink.written c.refuse.new.out) c.refuse.result (ap g.O.Sink.written c.in-Err-Refused.ensures.silent) c.refuse.ensures.ends))
+pub returns-in-Ok-clause-steady : goal.returns-in-Ok-clause-steady
+returns-in-Ok-clause-steady g c =
+    let is : command_of (map string_bytes c.args.words.now) ≡ Some (names_shown c.names.result) = c.in-Ok.ensures.taken ∙ ap (λ (command : Command). Some command) (sym c.names.ensures) in
+    of_command (names_shown c.names.result) _ is c.run_replay.ensures.steady
 
-pub returns-in-Err-Shelf-clause-sure : goal.returns-in-Err-Shelf-clause-sure
-returns-in-Err-Shelf-clause-sure g c = no_fault_of_sink _ _ c.ended-in-Err-Shelf.result.status (rw c.ended-in-Err-Shelf.ensures.status refl)
+pub returns-in-Ok-clause-sure : goal.returns-in-Ok-clause-sure
+returns-in-Ok-clause-sure g c =
+    let is : command_of (map string_bytes c.args.words.now) ≡ Some (names_shown c.names.result) = c.in-Ok.ensures.taken ∙ ap (λ (command : Command). Some command) (sym c.names.ensures) in
+    of_command (names_shown c.names.result) _ is c.run_replay.ensures.sure
+
+pub returns-in-Err-Memory-clause-run : goal.returns-in-Err-Memory-clause-run
+returns-in-Err-Memory-clause-run g c =
+    unread_run _ (g.H.Shelf.held c.args.shelf.now) (g.H.Shelf.reads c.args.shelf.now) (g.O.Sink.written c.args.out.now) c.ended-in-Err-Memory.result c.ended-in-Err-Memory.ensures.journal c.ended-in-Err-Memory.ensures.status
 
 pub returns-in-Err-Memory-clause-sure : goal.returns-in-Err-Memory-clause-sure
-returns-in-Err-Memory-clause-sure g c = no_fault_of_sink _ _ c.ended-in-Err-Memory.result.status (rw c.ended-in-Err-Memory.ensures.status refl)
+returns-in-Err-Memory-clause-sure g c = calm_run _ _ c.ended-in-Err-Memory.result.status (rw c.ended-in-Err-Memory.ensures.status refl)
+
+pub returns-in-Err-Memory-clause-steady : goal.returns-in-Err-Memory-clause-steady
+returns-in-Err-Memory-clause-steady g c = steady_run _ _ c.ended-in-Err-Memory.result.status (rw c.ended-in-Err-Memory.ensures.status refl)

@@ -3,7 +3,7 @@ use Rattle.ids_live.proofs.top.run_serial.Goals as goal
 
 pub returns-clause-complete : goal.returns-clause-complete
 returns-clause-complete g c =
-    all_complete _ _ _ _ _ _ _ _ _ _ _ c.run.result c.run.ensures.status c.run.ensures.words.0 c.run.ensures.shelf c.run.ensures.sink c.run.ensures.run
+    all_complete _ _ _ _ _ _ _ _ _ _ _ _ c.run.result c.run.ensures.status c.run.ensures.words c.run.ensures.shelf c.run.ensures.sink c.run.ensures.run
 
 pub returns-clause-sure : goal.returns-clause-sure
 returns-clause-sure g c =

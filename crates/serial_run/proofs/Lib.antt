@@ -8,4 +8,3 @@ pub mod Buffering
 pub mod Phasing
 pub mod Returning
 pub mod Coming
-pub mod Finishing

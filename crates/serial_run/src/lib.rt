@@ -12,4 +12,4 @@ mod telling;
 
 pub use editor::Editor;
 pub use phases::PhaseText;
-pub use run::{End, Ran, SerialRun, run_script};
+pub use run::SerialRun;

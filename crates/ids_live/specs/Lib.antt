@@ -4,6 +4,8 @@ pub mod Lines
 pub mod Told
 pub mod Reading
 pub mod Stops
+pub mod Listening
+pub mod ScriptEnds
 pub mod Steps
 pub mod Run
 pub mod Complete

@@ -1,7 +1,8 @@
-//! What is told on standard error where a run doesn't end with a report or a refused input.
+//! What is told on standard error at the end of a run.
 
 use crate::refused::Input;
 use command_line::command_in;
+use listeners::Listener;
 use std::alloc::Global;
 use std::fs::File;
 use std::io;
@@ -24,6 +25,16 @@ pub fn tell(rt: &HostRuntime, words: &[String], status: u8, failed: Option<Input
         7 => eprintln!(rt; "the run is full: it has at most 16777216 steps"),
         _ => Ok(()),
     };
+}
+
+/// Tells the line of each of these listeners.
+pub fn tell_lines(rt: &HostRuntime, listeners: &[Box<dyn Listener>]) {
+    for listener in listeners {
+        let _ = match listener.line(rt.alloc()) {
+            Ok(line) => eprintln!(rt; "{}", line.as_str()),
+            Err(_) => eprintln!(rt; "out of memory"),
+        };
+    }
 }
 
 /// The name under which the words ask for an input.

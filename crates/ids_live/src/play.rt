@@ -1,27 +1,30 @@
 //! The run over inputs that were read, and the line of a refused one.
-ghost use Rattle.std.specs.Prelude.{◌≡◌, [], ◌∷◌, None, Some, Ok, Err, IsTrue, length};
+ghost use Rattle.std.specs.Prelude.{◌≡◌, List, [], ◌∷◌, None, Some, Ok, Err, IsTrue, length, map};
 ghost use Rattle.ids_live.specs.Complete.{wanted};
 ghost use Rattle.ids_live.specs.Fitness.{IsFit};
 ghost use Rattle.ids_live.specs.Forms.{loaded};
 ghost use Rattle.ids_live.specs.Run.{At, IsEndOf, IsSinkAfter, is_among};
 ghost use Rattle.ids_live.specs.Steps.{status_at};
+ghost use Rattle.listeners.specs.Hearing.{Hearer};
 
 use crate::ending::Ended;
 use crate::refused::{Input, Refused, refused_line};
+use crate::script_run::{End, run_script};
 use audit_core::{Core, CoreJournal};
 use audit_model::{Limits, Phases, Specification};
+use listeners::Listener;
 use pair_eval::Evaluator;
 use schema_table::SchemaTable;
 use script_rules::full_is_long;
-use serial_run::{End, run_script};
 use shelf_io::{Sink, write_all};
 use std::alloc::Global;
 
-/// Runs the script on a core without entries over this schema and these specifications, and writes its
-/// output.
+/// Runs the script on a core without entries over this schema and these specifications, writes its output,
+/// and tells its reports.
 pub fn play<K: Sink>(
     alloc: Global,
     out: &mut K,
+    listeners: &mut Vec<Box<dyn Listener>>,
     schema: &SchemaTable,
     specs: &[Specification],
     core: Core,
@@ -33,7 +36,8 @@ pub fn play<K: Sink>(
     requires fit { IsFit core.ground phases }
     ensures status { IsTrue (is_among (0 ∷ 1 ∷ 4 ∷ 5 ∷ 7 ∷ []) result.status) }
     ensures sink { IsSinkAfter (K.faults out.old) (K.faults out.new) result }
-    ensures ends { IsEndOf (loaded core.entry.ground (Ok phases)) (K.written out.old) (K.written out.new) result }
+    ensures ends { IsEndOf (loaded core.entry.ground (Ok phases)) (K.written out.old) (K.written out.new)
+        (map hearer listeners.old.items) (map hearer listeners.new.items) result }
     ensures sure { At (4 ∷ []) result.status
         (K.sure out.old (length (wanted (loaded core.entry.ground (Ok phases)))) → ⊥) }
     ensures lapsed { result.lapsed ≡ 0 }
@@ -41,7 +45,7 @@ pub fn play<K: Sink>(
 {
     full_is_long();
     let evaluator = Evaluator { schema, specs };
-    let ran = run_script(alloc, core, &evaluator, &Limits::STANDARD, phases, out);
+    let ran = run_script(alloc, core, &evaluator, &Limits::STANDARD, phases, out, listeners);
     Ended {
         status: status_of(ran.end),
         journal: ran.journal,
@@ -67,7 +71,7 @@ fn status_of(end: End) -> u8
 pub fn refuse<K: Sink>(alloc: Global, out: &mut K, refused: &Refused) -> Ended
     ensures status { IsTrue (is_among (2 ∷ 4 ∷ 5 ∷ []) result.status) }
     ensures sink { IsSinkAfter (K.faults out.old) (K.faults out.new) result }
-    ensures ends { IsEndOf (Err refused.now) (K.written out.old) (K.written out.new) result }
+    ensures ends { (hearers : List Hearer) → IsEndOf (Err refused.now) (K.written out.old) (K.written out.new) hearers hearers result }
     ensures sure { At (4 ∷ []) result.status (K.sure out.old (length (wanted (Err refused.now))) → ⊥) }
     ensures lapsed { result.lapsed ≡ 0 }
     ensures failed { result.failed ≡ None }

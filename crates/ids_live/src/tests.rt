@@ -82,7 +82,7 @@ fn expect_row<R: Abort>(rt: &R, alloc: Global, row: &Row) -> Result<(), Fail> {
     let mut shelf = shelf(alloc, SCHEMA, row.specs, model.as_str(), row.script, "", 0)?;
     let mut sink = MemSink::new(alloc, 1000, 7, Numbers::new(alloc))?;
     let words = words(alloc, "replay")?;
-    let ended = run_serial(alloc, &words, &mut shelf, &mut sink);
+    let ended = run_serial(alloc, &words, &mut shelf, &mut sink, &mut Vec::new(alloc));
     assert_eq!(rt; ended.status, row.status, "{}", row.name);
     assert_eq!(rt; sink.bytes(), row.text.as_bytes(), "{}", row.name);
     assert_eq!(rt;
@@ -133,7 +133,7 @@ fn expect_stale<R: Abort>(
     )?;
     let mut sink = MemSink::new(alloc, 1000, 1000, Numbers::new(alloc))?;
     let words = words(alloc, "replay")?;
-    let ended = run_serial(alloc, &words, &mut shelf, &mut sink);
+    let ended = run_serial(alloc, &words, &mut shelf, &mut sink, &mut Vec::new(alloc));
     assert_eq!(rt; sink.bytes(), wanted.as_bytes(), "{role}");
     assert_eq!(rt; ended.status, 1, "{role}");
     Ok(())
@@ -159,7 +159,7 @@ fn expect_refusal<R: Abort>(
     let mut shelf = shelf(alloc, schema, specs, model, "no script", "T", 1)?;
     let mut sink = MemSink::new(alloc, 200, 200, Numbers::new(alloc))?;
     let words = words(alloc, "replay")?;
-    let ended = run_serial(alloc, &words, &mut shelf, &mut sink);
+    let ended = run_serial(alloc, &words, &mut shelf, &mut sink, &mut Vec::new(alloc));
     assert_eq!(rt; sink.bytes(), line.as_bytes(), "{line}");
     assert_eq!(rt; ended.status, 2, "{line}");
     assert_eq!(rt; ended.journal.steps().as_slice().len(), 0);
@@ -218,7 +218,7 @@ fn expect_untaken<R: Abort>(
 ) -> Result<(), Fail> {
     let mut shelf = shelf(alloc, SCHEMA, WALLS, "", "", "S", 1)?;
     let mut sink = MemSink::new(alloc, 0, 1, Numbers::new(alloc))?;
-    let ended = run_serial(alloc, words, &mut shelf, &mut sink);
+    let ended = run_serial(alloc, words, &mut shelf, &mut sink, &mut Vec::new(alloc));
     assert_eq!(rt; ended.status, 6, "{line}");
     Ok(())
 }
@@ -239,7 +239,7 @@ fn expect_taken<R: Abort>(rt: &R, alloc: Global, line: &str) -> Result<(), Fail>
     let mut shelf = shelf(alloc, SCHEMA, WALLS, walls.as_str(), "sync", "", 0)?;
     let mut sink = MemSink::new(alloc, 200, 200, Numbers::new(alloc))?;
     let words = words_of(alloc, line)?;
-    let ended = run_serial(alloc, &words, &mut shelf, &mut sink);
+    let ended = run_serial(alloc, &words, &mut shelf, &mut sink, &mut Vec::new(alloc));
     assert_eq!(rt; ended.status, 0, "{line}");
     assert_eq!(rt; sink.bytes(), PASS.as_bytes(), "{line}");
     Ok(())
@@ -274,7 +274,7 @@ fn expect_end_of_reads<R: Abort>(
     let mut shelf = shelf(alloc, SCHEMA, WALLS, walls.as_str(), "sync", name, number)?;
     let mut sink = MemSink::new(alloc, 200, 200, Numbers::new(alloc))?;
     let words = words(alloc, "replay")?;
-    let ended = run_serial(alloc, &words, &mut shelf, &mut sink);
+    let ended = run_serial(alloc, &words, &mut shelf, &mut sink, &mut Vec::new(alloc));
     assert_eq!(rt; ended.status, end.status, "{name} {number}");
     assert_eq!(rt; ended.failed, end.failed, "{name} {number}");
     assert_eq!(rt; sink.bytes(), end.text.as_bytes(), "{name} {number}");
@@ -329,7 +329,7 @@ fn expect_sink_fault<R: Abort>(
         .map_err(|back| back.0)?;
     let mut sink = MemSink::new(alloc, 200, most.max(1), failing)?;
     let words = words(alloc, "replay")?;
-    let ended = run_serial(alloc, &words, &mut shelf, &mut sink);
+    let ended = run_serial(alloc, &words, &mut shelf, &mut sink, &mut Vec::new(alloc));
     let written = most.saturating_mul(before as usize);
     assert_eq!(rt; ended.status, 4, "{most} {before}");
     assert_eq!(rt; Some(sink.bytes()), end.text.as_bytes().get(..written));

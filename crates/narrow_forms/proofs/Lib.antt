@@ -1,4 +1,0 @@
-pub mod Tools
-pub mod ReadSteps
-pub mod CutLemmas
-pub mod ScriptLaws

@@ -11,7 +11,7 @@ const NAMED: &str = "{\"specifications\":[{\"name\":\"walls\",\"ifcVersion\":[\"
      \"requirements\":[{\"facet\":\"attribute\",\"name\":{\"simpleValue\":\"Name\"}}]}]}";
 
 /// The runs of the table pass through the calls of several editors, each as its entries come.
-pub const EDITORS: [Row; 10] = [
+pub const EDITORS: [Row; 14] = [
     Row {
         name: "conflict_between_editors",
         specs: WALLS,
@@ -93,6 +93,50 @@ pub const EDITORS: [Row; 10] = [
              report 1\nspec 1 pass applicable 2 failed 0\nend pass\n16 open 1\n16 commit 2\n\
              report 2\nspec 1 pass applicable 2 failed 0\nend pass\n",
         entries: 12,
+    },
+    Row {
+        name: "a pair comes back while its claim is out",
+        specs: WALLS,
+        front: "",
+        lines: TWO_WALLS,
+        script: "take\neditor 2\nopen\nremove #10\ncommit\nopen\nadd #10=IFCWALL('a',$,'W01',$,$,$,$,$,$);\n\
+             commit\ntake\ngive\neditor 1\ngive\nsync\n",
+        status: 0,
+        text: "1 take 1 #10 0\n1 give stale inst #10 2\n2 open 0\n2 commit 1\n2 open 1\n2 commit 2\n\
+             2 take 1 #11 2\n2 give used\nreport 2\nspec 1 pass applicable 2 failed 0\nend pass\n",
+        entries: 12,
+    },
+    Row {
+        name: "missing_reference_in_the_file, and a further one",
+        specs: WALLS,
+        front: "",
+        lines: "#10=IFCWALL('a',$,'W01',$,$,$,$,$,$);\n#11=IFCWALL('b',$,'W02',$,$,$,$,$,$);\n\
+             #12=IFCRELDEFINESBYTYPE('t',$,$,$,(#10),#99);\n",
+        script: "open\nset #12 Name 'T'\ncommit\nopen\nset #12 RelatingType #98\ncommit\nsync\n",
+        status: 0,
+        text: "1 open 0\n1 commit 1\n1 open 1\n1 refused dangling from #12 to #98\n\
+             report 1\nspec 1 pass applicable 2 failed 0\nend pass\n",
+        entries: 10,
+    },
+    Row {
+        name: "tabs, leading zeros, carriage returns and comments",
+        specs: NAMED,
+        front: "",
+        lines: TWO_WALLS,
+        script: "editor\t 002\r\nopen\r\nset\t#010 Name /* a */ $ /* b */\t\ncommit\n\nsync\r\n",
+        status: 1,
+        text: "2 open 0\n2 commit 1\nreport 1\nspec 1 fail applicable 2 failed 1\nfail #10 1\nend fail\n",
+        entries: 8,
+    },
+    Row {
+        name: "no editor",
+        specs: WALLS,
+        front: "",
+        lines: TWO_WALLS,
+        script: "editor 0\nsync\n",
+        status: 2,
+        text: "refused script line 1 TooManyActors\n",
+        entries: 0,
     },
     Row {
         name: "another editor's draft is open",

@@ -9,6 +9,8 @@ mod editor_rows;
 mod ending;
 #[cfg(test)]
 mod facet_rows;
+#[cfg(test)]
+mod listener_tests;
 mod load;
 mod message;
 mod play;

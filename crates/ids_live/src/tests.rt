@@ -35,7 +35,7 @@ fn file(
 }
 
 /// The model file of these instance lines.
-fn model(alloc: Global, lines: &str) -> Result<String, Memory> {
+pub fn model(alloc: Global, lines: &str) -> Result<String, Memory> {
     marked_model(alloc, "", lines)
 }
 
@@ -49,7 +49,7 @@ fn marked_model(alloc: Global, front: &str, lines: &str) -> Result<String, Memor
 }
 
 /// Four files, S, Q, M and T; the read of this number of the file `fails` fails.
-fn shelf(
+pub fn shelf(
     alloc: Global,
     schema: &str,
     specs: &str,
@@ -67,7 +67,7 @@ fn shelf(
 }
 
 /// This word, and the names of the four files.
-fn words(alloc: Global, command: &str) -> Result<Vec<String>, Memory> {
+pub fn words(alloc: Global, command: &str) -> Result<Vec<String>, Memory> {
     let mut words = Vec::new(alloc);
     words.push(String::from_str(alloc, command)?)?;
     for name in ["S", "Q", "M", "T"] {

@@ -56,7 +56,7 @@ impl Buffer {
         ensures { OnOk result (self.new ≡ self.old ++
             (entry_lines limits.now (drop from (reverse core.now.history)) ++ text_in report.now)) }
     {
-        push_entries(&mut self.bytes, limits, &core.journal()[from..])?;
+        push_entries(&mut self.bytes, limits, &core.journal().as_slice()[from..])?;
         if let Some(report) = report {
             self.bytes.extend_from_slice(report.as_slice())?;
         }

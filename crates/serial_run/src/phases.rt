@@ -88,7 +88,7 @@ fn step<E: Assess>(
     ensures leaves { Leaves who (job line) core.old core.new editor.old editor.new result }
     ensures told { OnOk result (Tells who core.old core.new buffer.old buffer.new) }
 {
-    let from = core.journal().len();
+    let from = core.journal().as_slice().len();
     let report = act(alloc, core, evaluator, who, editor, line)?;
     match buffer.tell(core, limits, from, &report) {
         Ok(()) => Ok(()),

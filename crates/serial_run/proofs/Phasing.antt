@@ -24,7 +24,6 @@ use Rattle.script_rules.specs.Told.{Texts, all_told, reports, report_by}
 use Rattle.serial_run.proofs.Quiet.{told_line}
 use Rattle.serial_run.specs.Phases.{MakesPhase, StopsPhase}
 use Rattle.serial_run.specs.Plays.{AreQuiet, PlaysQuietly, StopsQuietly}
-use Rattle.serial_run.specs.Runs.{ends}
 use Rattle.script_rules.proofs.Agreeing.{part_of, part_ready, Projects, project}
 use Rattle.serial_run.proofs.Standing.{ready_held}
 
@@ -154,6 +153,11 @@ unended_alone (e ∷ es) a = by_actor (e.actor == 0) refl where
 unended_quiet : (who : ℕ) (es : List StepRec) → AreQuiet who es → filter ends_phase es ≡ []
 unended_quiet who [] q = refl
 unended_quiet who (e ∷ es) q = ap (λ (b : Bool). cond b (e ∷ filter ends_phase es) (filter ends_phase es)) (and_right (e.actor == 0) (is_report e.reply) q.1) ∙ unended_quiet who es q.2
+
+-- how many phases have come to their end
+abbrev pub ends : List StepRec → ℕ
+ends [] = 0
+ends (e ∷ h) = cond (ends_phase e) (ends h + 1) (ends h)
 
 -- as many phases have ended as before
 pub ends_stay : (es h : List StepRec) → filter ends_phase es ≡ [] → ends (es ++ h) ≡ ends h

@@ -277,9 +277,9 @@ phase_is new {fs = fs} f xs (Ok x) r k =
     )
 phase_is new {fs = fs} f xs (Err why) r k =
     let bound : 0 < length fs = omega (arith, r.1.count) in (
-      k.plays.ground ∙ r.0,
-      editors_after fs f r.1 (omega arith) k.plays k.works,
-      λ b since rest s. stops_in 0 sync_jobs rest f why bound (r.3 b since (tasks 0 sync_jobs ++ rest) (regrouped xs (tasks 0 sync_jobs) rest s)) refl k,
+      k.0.plays.ground ∙ r.0,
+      editors_after fs f r.1 (omega arith) k.0.plays k.0.works,
+      λ b since rest s. stops_in 0 sync_jobs rest f why bound (r.3 b since (tasks 0 sync_jobs ++ rest) (regrouped xs (tasks 0 sync_jobs) rest s)) refl k.0,
     )
 
 pub none_left : {X : Type 0} (xs : List X) (n : ℕ) → length xs ≡ n → (0 < n → false ≡ true) → reverse xs ≡ []

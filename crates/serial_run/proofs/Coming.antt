@@ -172,6 +172,6 @@ come_stopped {g = g} {all = all} {old = old} {new = new} {es = es} {fs = fs} p r
               told = inr (m.0, m.1, m.2.told);
             }
 
-pub comes : {g : Ground} {all : List Phase} {old new : CoreView} {es fs : List Editor} (p : Phase) (rest : List Phase) (result : Result PhaseText Halt) → HasCome g all (p ∷ rest) old es → Runs {A = PhaseText} (line_tasks p.lines ++ tasks 0 sync_jobs) old new es fs result → LeavesPhase p.lines old new fs result → ComesOn g all rest old new fs result
-comes p rest (Ok told) k r l = (come_on p rest told k r l.made l.told.none, l.told, (l.made.entries, l.made.history))
-comes p rest (Err why) k r l = come_stopped p rest why k r l
+pub comes : {g : Ground} {all : List Phase} {old : CoreView} (new : CoreView) {es : List Editor} (fs : List Editor) (p : Phase) (rest : List Phase) (result : Result PhaseText Halt) → HasCome g all (p ∷ rest) old es → Runs {A = PhaseText} (line_tasks p.lines ++ tasks 0 sync_jobs) old new es fs result → LeavesPhase p.lines old new fs result → ComesOn g all rest old new fs result
+comes new fs p rest (Ok told) k r l = (come_on p rest told k r l.made l.told.none, l.told, (l.made.entries, l.made.history))
+comes new fs p rest (Err why) k r l = come_stopped p rest why k r l

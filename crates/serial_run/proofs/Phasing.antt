@@ -1,12 +1,11 @@
 -- What was made in a phase.
-use Rattle.std.proofs.Common.{◌≡◌, ℕ, ◌≤◌, ◌<◌, ◌==◌, ◌&&◌, Bool, true, false, cond, List, [], ◌∷◌, ◌++◌, ◌+◌, filter, Option, Some, None, Result, Ok, Err, ◌⊎◌, inl, inr, arith, refl, ap, sym, subst, ◌∙◌}
+use Rattle.std.proofs.Common.{◌≡◌, ℕ, ◌≤◌, ◌<◌, ◌==◌, ◌&&◌, Bool, true, false, cond, List, [], ◌∷◌, ◌++◌, ◌+◌, filter, Some, None, Ok, Err, ◌⊎◌, inl, inr, arith, refl, ap, sym, subst, ◌∙◌}
 use Rattle.std.proofs.lemmas.Bool.{ne_eqb, and_right}
 use Rattle.std.proofs.lemmas.List.{append-nil, append_assoc}
 use Rattle.audit_model.specs.declared.step.StepRec.{StepRec}
 use Rattle.audit_model.specs.declared.script.ScriptLine.{ScriptLine}
 use Rattle.audit_model.specs.declared.script.Phase.{Phase}
 use Rattle.audit_model.specs.declared.script.Act.TheVariants.{Change, Publish}
-use Rattle.audit_model.specs.declared.step.Call.{Call}
 use Rattle.audit_model.specs.History.{Ground}
 use Rattle.model_view.specs.declared.answers.Halt.{Halt}
 use Rattle.audit_core.specs.Cores.{CoreView}
@@ -15,17 +14,16 @@ use Rattle.script_rules.specs.Course.{Place, place, free, Part, part, Job, line,
 use Rattle.script_rules.specs.Script.{Task, tasks, line_tasks, sync_jobs, Course, ready_all, HasRoom}
 use Rattle.script_rules.specs.Order.{AreOfEditors}
 use Rattle.serial_run.specs.Editors.{draft_of, number_of, place_of}
-use Rattle.serial_run.specs.Running.{at, AreEditors, HoldNone, Stands, IsStopped, Runs, Syncs}
+use Rattle.serial_run.specs.Running.{at, HoldNone, Stands, IsStopped, Runs, Syncs}
 use Rattle.script_rules.specs.RunLaws.{by, jobs_of}
-use Rattle.script_rules.specs.Phased.{IsPhase, HasNoWorkers, ArePhases}
+use Rattle.script_rules.specs.Phased.{IsPhase, ArePhases}
 use Rattle.script_rules.specs.Output.{ends_phase, is_report}
-use Rattle.script_rules.specs.Stopped.{held_after, phase_jobs}
+use Rattle.script_rules.specs.Stopped.{phase_jobs}
 use Rattle.script_rules.specs.Told.{Texts, all_told, reports, report_by}
 use Rattle.serial_run.proofs.Quiet.{told_line}
 use Rattle.serial_run.specs.Phases.{MakesPhase, StopsPhase}
-use Rattle.serial_run.specs.Plays.{AreQuiet, PlaysQuietly, StopsQuietly}
+use Rattle.serial_run.specs.Plays.{AreQuiet, StopsQuietly}
 use Rattle.script_rules.proofs.Agreeing.{part_of, part_ready, Projects, project}
-use Rattle.serial_run.proofs.Standing.{ready_held}
 
 -- Entries of one actor among others.
 

@@ -217,8 +217,8 @@ lines_on {new = new} {fs = fs} l rest f k e =
       editors = editors_after fs f k.editors lt e.plays e.works;
       numbers = k.numbers.2;
       order = each_at (λ who x. (d : Bool) × (h : Bool) × IsOrderly d h (own who rest) × (h ≡ false → x.held ≡ None) × (d ≡ false → x.draft ≡ None)) fs l.editor f bound
-      (let m : (d : Bool) × (h : Bool) × IsOrderly d h (l.act ∷ own l.editor rest) × (h ≡ false → (at fs l.editor).held ≡ None) × (d ≡ false → (at fs l.editor).draft ≡ None) = first_may fs l rest (k.order l.editor) in (drafts_after m.0 l.act, holds_after m.1 l.act, m.2.1, holds_none l.act m.1 (at fs l.editor) f e.keeps m.3, drafts_none l.act m.0 (at fs l.editor) f e.drafts m.4))
-      (λ who ne. let m : MayCome who fs (l ∷ rest) = k.order who in (m.0, m.1, subst (λ (acts : List Act). IsOrderly m.0 m.1 acts) (own_later l rest who ne) m.2, m.3, m.4));
+          (let m : (d : Bool) × (h : Bool) × IsOrderly d h (l.act ∷ own l.editor rest) × (h ≡ false → (at fs l.editor).held ≡ None) × (d ≡ false → (at fs l.editor).draft ≡ None) = first_may fs l rest (k.order l.editor) in (drafts_after m.0 l.act, holds_after m.1 l.act, m.2.1, holds_none l.act m.1 (at fs l.editor) f e.keeps m.3, drafts_none l.act m.0 (at fs l.editor) f e.drafts m.4))
+          (λ who ne. let m : MayCome who fs (l ∷ rest) = k.order who in (m.0, m.1, subst (λ (acts : List Act). IsOrderly m.0 m.1 acts) (own_later l rest who ne) m.2, m.3, m.4));
       course = λ b since more s. stands_on l.editor (line l.act ∷ []) (line_tasks rest ++ more) f bound (k.course b since more s) refl e.plays;
     }
 

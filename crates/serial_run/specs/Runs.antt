@@ -1,5 +1,5 @@
 -- What a run of a script leaves, phase by phase. Histories stand here with the newest entry first, journals with the oldest first.
-use Rattle.std.specs.Prelude.{◌≡◌, ℕ, List, [], ◌∷◌, ◌++◌, length, reverse, ◌⊎◌, Option, Some, None, Result, Ok, Err}
+use Rattle.std.specs.Prelude.{◌≡◌, ℕ, List, [], ◌++◌, length, reverse, ◌⊎◌, Option, Some, None, Result, Ok, Err}
 use Rattle.audit_model.specs.declared.step.StepRec.{StepRec}
 use Rattle.audit_model.specs.declared.step.Call.TheVariants as calls
 use Rattle.audit_model.specs.declared.step.Reply.TheVariants as replies

@@ -1,19 +1,18 @@
 -- How far a script has come, phase by phase.
-use Rattle.std.proofs.Common.{◌≡◌, ℕ, ◌<◌, ◌≤◌, ◌+◌, List, [], ◌∷◌, ◌++◌, reverse, Option, Some, None, Result, Ok, Err, ◌⊎◌, inl, inr, arith, refl, ap, sym, subst, ◌∙◌}
+use Rattle.std.proofs.Common.{◌≡◌, ℕ, List, [], ◌∷◌, ◌++◌, Option, Some, None, Result, Ok, Err, inl, inr, arith, refl, ap, sym, subst, ◌∙◌}
 use Rattle.std.proofs.lemmas.List.{append-nil, append_assoc}
 use Rattle.audit_model.specs.declared.step.StepRec.{StepRec}
 use Rattle.audit_model.specs.declared.step.Call.{Call}
 use Rattle.audit_model.specs.declared.script.Phase.{Phase}
 use Rattle.audit_model.specs.History.{Ground}
-use Rattle.audit_model.specs.Machine.{Legal}
 use Rattle.model_view.specs.Views.{ClaimView}
 use Rattle.model_view.specs.declared.answers.Halt.{Halt}
 use Rattle.model_view.specs.declared.answers.Halt.TheVariants as halt
 use Rattle.audit_core.specs.Cores.{CoreView}
 use Rattle.script_rules.specs.Course.{free}
-use Rattle.script_rules.specs.Script.{Task, tasks, line_tasks, sync_jobs, script_tasks, Course, turn, course_after, IsOf, script, HasRoom, IsRun, ends_full}
-use Rattle.script_rules.specs.Order.{AreOrderly, IsOrderlyPhase}
-use Rattle.script_rules.specs.Phased.{IsPhase, HasNoWorkers, ArePhases}
+use Rattle.script_rules.specs.Script.{Task, tasks, line_tasks, sync_jobs, script_tasks, Course, turn, course_after, IsOf, script, IsRun, ends_full}
+use Rattle.script_rules.specs.Order.{AreOrderly}
+use Rattle.script_rules.specs.Phased.{HasNoWorkers, ArePhases}
 use Rattle.script_rules.specs.RunLaws.{by}
 use Rattle.script_rules.specs.Stopped.{held_after, held_by, phase_jobs, returns, returned, IsFront, AreStopped}
 use Rattle.script_rules.specs.Told.{all_told, reports}
@@ -22,8 +21,8 @@ use Rattle.serial_run.specs.declared.phases.PhaseText.{PhaseText}
 use Rattle.serial_run.specs.Buffers.{HasNoLines}
 use Rattle.serial_run.specs.Editors.{number_of, place_of}
 use Rattle.serial_run.specs.Plays.{full_at}
-use Rattle.serial_run.specs.Running.{at, AreEditors, HoldNone, Stands, IsStopped, Runs, call_of}
-use Rattle.serial_run.specs.Phases.{IsReady, MakesPhase, StopsPhase, IsMade, LacksText, LeavesPhase}
+use Rattle.serial_run.specs.Running.{at, AreEditors, Stands, IsStopped, Runs, call_of}
+use Rattle.serial_run.specs.Phases.{IsReady, MakesPhase, StopsPhase, LacksText, LeavesPhase}
 use Rattle.serial_run.specs.Runs.{HasCome, HasStopped, IfMeetsFull, StaysTold, ComesOn, AreIdle}
 use Rattle.serial_run.proofs.Phasing.{phases_more, by_both, StaysSo, stays_told}
 use Rattle.serial_run.proofs.Returning.{idle_start, idle_none, returns_by, returns_none}
@@ -172,6 +171,6 @@ come_stopped {g = g} {all = all} {old = old} {new = new} {es = es} {fs = fs} p r
               told = inr (m.0, m.1, m.2.told);
             }
 
-pub comes : {g : Ground} {all : List Phase} {old new : CoreView} {es fs : List Editor} (p : Phase) (rest : List Phase) (result : Result PhaseText Halt) → HasCome g all (p ∷ rest) old es → Runs {A = PhaseText} (line_tasks p.lines ++ tasks 0 sync_jobs) old new es fs result → LeavesPhase p.lines old new fs result → ComesOn g all rest old new fs result
-comes p rest (Ok told) k r l = (come_on p rest told k r l.made l.told.none, l.told)
-comes p rest (Err why) k r l = come_stopped p rest why k r l
+pub comes : {g : Ground} {all : List Phase} {old : CoreView} (new : CoreView) {es : List Editor} (fs : List Editor) (p : Phase) (rest : List Phase) (result : Result PhaseText Halt) → HasCome g all (p ∷ rest) old es → Runs {A = PhaseText} (line_tasks p.lines ++ tasks 0 sync_jobs) old new es fs result → LeavesPhase p.lines old new fs result → ComesOn g all rest old new fs result
+comes new fs p rest (Ok told) k r l = (come_on p rest told k r l.made l.told.none, l.told, (l.made.entries, l.made.history))
+comes new fs p rest (Err why) k r l = come_stopped p rest why k r l

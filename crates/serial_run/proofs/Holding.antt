@@ -46,13 +46,13 @@ delivered who n (c ∷ cs) k =
     let at : F (c.number == n) = elim (c.number == n) as F [
       | true ↦ λ e. delivered who n cs k.1
       | false ↦ λ e. (
-          (λ by.
-          let same : Some n ≡ Some c.number = k.0 by in
-          let is : c.number ≡ n = cc in
-          let t : (c.number == n) ≡ true = eq-eqb c.number n is in
-          absurd (cc)),
-          delivered who n cs k.1,
-        )
+        (λ by.
+            let same : Some n ≡ Some c.number = k.0 by in
+            let is : c.number ≡ n = cc in
+            let t : (c.number == n) ≡ true = eq-eqb c.number n is in
+            absurd (cc)),
+        delivered who n cs k.1,
+      )
     ] in
     at refl
 

@@ -1,12 +1,11 @@
 -- What was made in a phase.
-use Rattle.std.proofs.Common.{◌≡◌, ℕ, ◌≤◌, ◌<◌, ◌==◌, ◌&&◌, Bool, true, false, cond, List, [], ◌∷◌, ◌++◌, ◌+◌, filter, Option, Some, None, Result, Ok, Err, ◌⊎◌, inl, inr, arith, refl, ap, sym, subst, ◌∙◌}
+use Rattle.std.proofs.Common.{◌≡◌, ℕ, ◌≤◌, ◌<◌, ◌==◌, ◌&&◌, Bool, true, false, cond, List, [], ◌∷◌, ◌++◌, ◌+◌, filter, Some, None, Ok, Err, ◌⊎◌, inl, inr, arith, refl, ap, sym, subst, ◌∙◌}
 use Rattle.std.proofs.lemmas.Bool.{ne_eqb, and_right}
 use Rattle.std.proofs.lemmas.List.{append-nil, append_assoc}
 use Rattle.audit_model.specs.declared.step.StepRec.{StepRec}
 use Rattle.audit_model.specs.declared.script.ScriptLine.{ScriptLine}
 use Rattle.audit_model.specs.declared.script.Phase.{Phase}
 use Rattle.audit_model.specs.declared.script.Act.TheVariants.{Change, Publish}
-use Rattle.audit_model.specs.declared.step.Call.{Call}
 use Rattle.audit_model.specs.History.{Ground}
 use Rattle.model_view.specs.declared.answers.Halt.{Halt}
 use Rattle.audit_core.specs.Cores.{CoreView}
@@ -15,18 +14,16 @@ use Rattle.script_rules.specs.Course.{Place, place, free, Part, part, Job, line,
 use Rattle.script_rules.specs.Script.{Task, tasks, line_tasks, sync_jobs, Course, ready_all, HasRoom}
 use Rattle.script_rules.specs.Order.{AreOfEditors}
 use Rattle.serial_run.specs.Editors.{draft_of, number_of, place_of}
-use Rattle.serial_run.specs.Running.{at, AreEditors, HoldNone, Stands, IsStopped, Runs, Syncs}
+use Rattle.serial_run.specs.Running.{at, HoldNone, Stands, IsStopped, Runs, Syncs}
 use Rattle.script_rules.specs.RunLaws.{by, jobs_of}
-use Rattle.script_rules.specs.Phased.{IsPhase, HasNoWorkers, ArePhases}
+use Rattle.script_rules.specs.Phased.{IsPhase, ArePhases}
 use Rattle.script_rules.specs.Output.{ends_phase, is_report}
-use Rattle.script_rules.specs.Stopped.{held_after, phase_jobs}
+use Rattle.script_rules.specs.Stopped.{phase_jobs}
 use Rattle.script_rules.specs.Told.{Texts, all_told, reports, report_by}
 use Rattle.serial_run.proofs.Quiet.{told_line}
 use Rattle.serial_run.specs.Phases.{MakesPhase, StopsPhase}
-use Rattle.serial_run.specs.Plays.{AreQuiet, PlaysQuietly, StopsQuietly}
-use Rattle.serial_run.specs.Runs.{ends}
+use Rattle.serial_run.specs.Plays.{AreQuiet, StopsQuietly}
 use Rattle.script_rules.proofs.Agreeing.{part_of, part_ready, Projects, project}
-use Rattle.serial_run.proofs.Standing.{ready_held}
 
 -- Entries of one actor among others.
 
@@ -141,29 +138,40 @@ phases_more (x ∷ xs) p es fs a k = (fs ++ a.0, a.1, ap (λ (ys : List StepRec)
 
 unended_alone : (es : List StepRec) → by 0 es ≡ [] → filter ends_phase es ≡ []
 unended_alone [] a = refl
-unended_alone (e ∷ es) a = by_actor (e.actor == 0) refl where
-  by_actor : (b : Bool) → (e.actor == 0) ≡ b → filter ends_phase (e ∷ es) ≡ []
-  by_actor true is =
-      let some : e ∷ by 0 es ≡ [] = ap (λ (b : Bool). cond b (e ∷ by 0 es) (by 0 es)) (sym is) ∙ a in
-      absurd (cc)
-  by_actor false is =
-      let rest : by 0 es ≡ [] = ap (λ (b : Bool). cond b (e ∷ by 0 es) (by 0 es)) (sym is) ∙ a in
-      let none : ends_phase e ≡ false = ap (λ (b : Bool). b && is_report e.reply) is in
-      ap (λ (b : Bool). cond b (e ∷ filter ends_phase es) (filter ends_phase es)) none ∙ unended_alone es rest
+unended_alone (e ∷ es) a =
+    let F : Bool → Type 0 = λ b. (e.actor == 0) ≡ b → filter ends_phase (e ∷ es) ≡ [] in
+    let by_actor : F (e.actor == 0) = elim (e.actor == 0) as F [
+      | true ↦ λ is.
+          let some : e ∷ by 0 es ≡ [] = ap (λ (b : Bool). cond b (e ∷ by 0 es) (by 0 es)) (sym is) ∙ a in
+          absurd (cc)
+      | false ↦ λ is.
+          let rest : by 0 es ≡ [] = ap (λ (b : Bool). cond b (e ∷ by 0 es) (by 0 es)) (sym is) ∙ a in
+          let none : ends_phase e ≡ false = ap (λ (b : Bool). b && is_report e.reply) is in
+          ap (λ (b : Bool). cond b (e ∷ filter ends_phase es) (filter ends_phase es)) none ∙ unended_alone es rest
+    ] in
+    by_actor refl
 
 unended_quiet : (who : ℕ) (es : List StepRec) → AreQuiet who es → filter ends_phase es ≡ []
 unended_quiet who [] q = refl
 unended_quiet who (e ∷ es) q = ap (λ (b : Bool). cond b (e ∷ filter ends_phase es) (filter ends_phase es)) (and_right (e.actor == 0) (is_report e.reply) q.1) ∙ unended_quiet who es q.2
 
+-- how many phases have come to their end
+abbrev pub ends : List StepRec → ℕ
+ends [] = 0
+ends (e ∷ h) = cond (ends_phase e) (ends h + 1) (ends h)
+
 -- as many phases have ended as before
 pub ends_stay : (es h : List StepRec) → filter ends_phase es ≡ [] → ends (es ++ h) ≡ ends h
 ends_stay [] h f = refl
-ends_stay (e ∷ es) h f = by_end (ends_phase e) refl where
-  by_end : (b : Bool) → ends_phase e ≡ b → ends (e ∷ (es ++ h)) ≡ ends h
-  by_end true is = let some : e ∷ filter ends_phase es ≡ [] = ap (λ (b : Bool). cond b (e ∷ filter ends_phase es) (filter ends_phase es)) (sym is) ∙ f in absurd (cc)
-  by_end false is =
-      let rest : filter ends_phase es ≡ [] = ap (λ (b : Bool). cond b (e ∷ filter ends_phase es) (filter ends_phase es)) (sym is) ∙ f in
-      ap (λ (b : Bool). cond b (ends (es ++ h) + 1) (ends (es ++ h))) is ∙ ends_stay es h rest
+ends_stay (e ∷ es) h f =
+    let F : Bool → Type 0 = λ b. ends_phase e ≡ b → ends (e ∷ (es ++ h)) ≡ ends h in
+    let by_end : F (ends_phase e) = elim (ends_phase e) as F [
+      | true ↦ λ is. let some : e ∷ filter ends_phase es ≡ [] = ap (λ (b : Bool). cond b (e ∷ filter ends_phase es) (filter ends_phase es)) (sym is) ∙ f in absurd (cc)
+      | false ↦ λ is.
+          let rest : filter ends_phase es ≡ [] = ap (λ (b : Bool). cond b (e ∷ filter ends_phase es) (filter ends_phase es)) (sym is) ∙ f in
+          ap (λ (b : Bool). cond b (ends (es ++ h) + 1) (ends (es ++ h))) is ∙ ends_stay es h rest
+    ] in
+    by_end refl
 
 ends_least : (es h : List StepRec) → ends h ≤ ends (es ++ h)
 ends_least [] h = omega arith
@@ -175,15 +183,18 @@ ends_least (e ∷ es) h =
 -- and only then
 unended_by : (es h : List StepRec) → ends (es ++ h) ≡ ends h → filter ends_phase es ≡ []
 unended_by [] h n = refl
-unended_by (e ∷ es) h n = by_end (ends_phase e) refl where
-  by_end : (b : Bool) → ends_phase e ≡ b → filter ends_phase (e ∷ es) ≡ []
-  by_end true is =
-      let more : ends (e ∷ (es ++ h)) ≡ ends (es ++ h) + 1 = ap (λ (b : Bool). cond b (ends (es ++ h) + 1) (ends (es ++ h))) is in
-      let least : ends h ≤ ends (es ++ h) = ends_least es h in
-      absurd (omega (arith, n, more, least))
-  by_end false is =
-      let same : ends (e ∷ (es ++ h)) ≡ ends (es ++ h) = ap (λ (b : Bool). cond b (ends (es ++ h) + 1) (ends (es ++ h))) is in
-      ap (λ (b : Bool). cond b (e ∷ filter ends_phase es) (filter ends_phase es)) is ∙ unended_by es h (sym same ∙ n)
+unended_by (e ∷ es) h n =
+    let F : Bool → Type 0 = λ b. ends_phase e ≡ b → filter ends_phase (e ∷ es) ≡ [] in
+    let by_end : F (ends_phase e) = elim (ends_phase e) as F [
+      | true ↦ λ is.
+          let more : ends (e ∷ (es ++ h)) ≡ ends (es ++ h) + 1 = ap (λ (b : Bool). cond b (ends (es ++ h) + 1) (ends (es ++ h))) is in
+          let least : ends h ≤ ends (es ++ h) = ends_least es h in
+          absurd (omega (arith, n, more, least))
+      | false ↦ λ is.
+          let same : ends (e ∷ (es ++ h)) ≡ ends (es ++ h) = ap (λ (b : Bool). cond b (ends (es ++ h) + 1) (ends (es ++ h))) is in
+          ap (λ (b : Bool). cond b (e ∷ filter ends_phase es) (filter ends_phase es)) is ∙ unended_by es h (sym same ∙ n)
+    ] in
+    by_end refl
 
 -- Jobs of a phase.
 
@@ -225,8 +236,8 @@ start_of {es = es} ts none room = record {
 }
 
 -- where the lines were stopped no phase has ended
-pub lines_unended : {A : Type 0} {old new : CoreView} {es fs : List Editor} (lines : List ScriptLine) (why : Halt) → AreOfEditors lines → HoldNone es → HasRoom old.ground old.history → Runs {A = A} (line_tasks lines) old new es fs (Err why) → ends new.history ≡ ends old.history
-lines_unended {old = old} {new = new} {es = es} {fs = fs} lines why o none room r =
+pub lines_unended : (A : Type 0) {old new : CoreView} {es fs : List Editor} (lines : List ScriptLine) (why : Halt) → AreOfEditors lines → HoldNone es → HasRoom old.ground old.history → Runs {A = A} (line_tasks lines) old new es fs (Err why) → ends new.history ≡ ends old.history
+lines_unended A {old = old} {new = new} {es = es} {fs = fs} lines why o none room r =
     let c : Course = ready_all all_free (line_tasks lines) in
     let s : IsStopped c old.history new fs why = r.2 c old.history [] (start_of (line_tasks lines) none room) in
     let p : Projects 0 c s.entries = project 0 c s.entries s.at_course.own in
@@ -242,8 +253,8 @@ sync_unended {old = old} {mid = mid} lines f why o none room r k =
     ap (λ (h : List StepRec). ends h) k.0.plays.history ∙ ends_stay k.0.plays.entries mid.history (unended_quiet 0 k.0.plays.entries k.1)
     ∙ ap (λ (h : List StepRec). ends h) m.history ∙ ends_stay m.entries old.history (unended_alone m.entries alone)
 
-pub phase_stopped : {A : Type 0} {old : CoreView} (new : CoreView) {es : List Editor} (fs : List Editor) (lines : List ScriptLine) (why : Halt) → AreOfEditors lines → HoldNone es → HasRoom old.ground old.history → Runs {A = A} (line_tasks lines ++ tasks 0 sync_jobs) old new es fs (Err why) → ends new.history ≡ ends old.history → StopsPhase lines old new fs
-phase_stopped {old = old} new {es = es} fs lines why o none room r n =
+pub phase_stopped : (A : Type 0) {old : CoreView} (new : CoreView) {es : List Editor} (fs : List Editor) (lines : List ScriptLine) (why : Halt) → AreOfEditors lines → HoldNone es → HasRoom old.ground old.history → Runs {A = A} (line_tasks lines ++ tasks 0 sync_jobs) old new es fs (Err why) → ends new.history ≡ ends old.history → StopsPhase lines old new fs
+phase_stopped A {old = old} new {es = es} fs lines why o none room r n =
     let ts : List Task = line_tasks lines ++ tasks 0 sync_jobs in
     let c : Course = ready_all all_free ts in
     let s : IsStopped c old.history new fs why = r.2 c old.history [] (start_of ts none room) in
@@ -283,13 +294,16 @@ pub record StaysSo (g : Ground) (h k : List StepRec) : Type 0 where
 
 pub stays_told : (g : Ground) (es h : List StepRec) → filter ends_phase es ≡ [] → StaysSo g h (es ++ h)
 stays_told g [] h f = record { whole = refl; reports_are = refl }
-stays_told g (e ∷ es) h f = by_end (ends_phase e) refl where
-  by_end : (b : Bool) → ends_phase e ≡ b → StaysSo g h (e ∷ (es ++ h))
-  by_end true is = let some : e ∷ filter ends_phase es ≡ [] = ap (λ (b : Bool). cond b (e ∷ filter ends_phase es) (filter ends_phase es)) (sym is) ∙ f in absurd (cc)
-  by_end false is =
-      let rest : filter ends_phase es ≡ [] = ap (λ (b : Bool). cond b (e ∷ filter ends_phase es) (filter ends_phase es)) (sym is) ∙ f in
-      let k : StaysSo g h (es ++ h) = stays_told g es h rest in
-      record {
-        whole = ap (λ (t : Texts). t.whole) (told_line g e (es ++ h) is) ∙ k.whole;
-        reports_are = ap (λ (b : Bool). cond b (reports g (es ++ h) ++ report_by g (e ∷ (es ++ h)) e.reply) (reports g (es ++ h))) is ∙ k.reports_are;
-      }
+stays_told g (e ∷ es) h f =
+    let F : Bool → Type 0 = λ b. ends_phase e ≡ b → StaysSo g h (e ∷ (es ++ h)) in
+    let by_end : F (ends_phase e) = elim (ends_phase e) as F [
+      | true ↦ λ is. let some : e ∷ filter ends_phase es ≡ [] = ap (λ (b : Bool). cond b (e ∷ filter ends_phase es) (filter ends_phase es)) (sym is) ∙ f in absurd (cc)
+      | false ↦ λ is.
+          let rest : filter ends_phase es ≡ [] = ap (λ (b : Bool). cond b (e ∷ filter ends_phase es) (filter ends_phase es)) (sym is) ∙ f in
+          let k : StaysSo g h (es ++ h) = stays_told g es h rest in
+          record {
+            whole = ap (λ (t : Texts). t.whole) (told_line g e (es ++ h) is) ∙ k.whole;
+            reports_are = ap (λ (b : Bool). cond b (reports g (es ++ h) ++ report_by g (e ∷ (es ++ h)) e.reply) (reports g (es ++ h))) is ∙ k.reports_are;
+          }
+    ] in
+    by_end refl

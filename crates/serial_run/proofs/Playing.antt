@@ -108,8 +108,7 @@ quietly_call {old = old} {new = new} {who = who} {q = q} {r = r} {call = call} {
 -- the next call was halted, behind calls without a report
 pub quietly_halted : {old mid new : CoreView} {who : ℕ} {q r : Part} (e : Editor) (why : Halt) (n : ℕ) (call : Call) → PlaysQuietly who q old mid r → r.place.held ≡ number_of e.held → coming r ≡ Some call → ((g : Ground) (h : List StepRec) → full_for g h call ≡ is_full g h n) → IsHalted mid new n why → Works mid who e → StopsQuietly who q old new e why
 quietly_halted {new = new} {who = who} {r = r} e why n call k held next same h w =
-    let f : Unchanged _ new × IfFull why new (Some call) = full_now why n call same h in
-    (
+    let f : Unchanged _ new × IfFull why new (Some call) = full_now why n call same h in (
       record {
         part = r;
         plays = record {

@@ -217,8 +217,8 @@ lines_on {new = new} {fs = fs} l rest f k e =
       editors = editors_after fs f k.editors lt e.plays e.works;
       numbers = k.numbers.2;
       order = each_at (λ who x. (d : Bool) × (h : Bool) × IsOrderly d h (own who rest) × (h ≡ false → x.held ≡ None) × (d ≡ false → x.draft ≡ None)) fs l.editor f bound
-      (let m : (d : Bool) × (h : Bool) × IsOrderly d h (l.act ∷ own l.editor rest) × (h ≡ false → (at fs l.editor).held ≡ None) × (d ≡ false → (at fs l.editor).draft ≡ None) = first_may fs l rest (k.order l.editor) in (drafts_after m.0 l.act, holds_after m.1 l.act, m.2.1, holds_none l.act m.1 (at fs l.editor) f e.keeps m.3, drafts_none l.act m.0 (at fs l.editor) f e.drafts m.4))
-      (λ who ne. let m : MayCome who fs (l ∷ rest) = k.order who in (m.0, m.1, subst (λ (acts : List Act). IsOrderly m.0 m.1 acts) (own_later l rest who ne) m.2, m.3, m.4));
+          (let m : (d : Bool) × (h : Bool) × IsOrderly d h (l.act ∷ own l.editor rest) × (h ≡ false → (at fs l.editor).held ≡ None) × (d ≡ false → (at fs l.editor).draft ≡ None) = first_may fs l rest (k.order l.editor) in (drafts_after m.0 l.act, holds_after m.1 l.act, m.2.1, holds_none l.act m.1 (at fs l.editor) f e.keeps m.3, drafts_none l.act m.0 (at fs l.editor) f e.drafts m.4))
+          (λ who ne. let m : MayCome who fs (l ∷ rest) = k.order who in (m.0, m.1, subst (λ (acts : List Act). IsOrderly m.0 m.1 acts) (own_later l rest who ne) m.2, m.3, m.4));
       course = λ b since more s. stands_on l.editor (line l.act ∷ []) (line_tasks rest ++ more) f bound (k.course b since more s) refl e.plays;
     }
 
@@ -277,9 +277,9 @@ phase_is new {fs = fs} f xs (Ok x) r k =
     )
 phase_is new {fs = fs} f xs (Err why) r k =
     let bound : 0 < length fs = omega (arith, r.1.count) in (
-      k.plays.ground ∙ r.0,
-      editors_after fs f r.1 (omega arith) k.plays k.works,
-      λ b since rest s. stops_in 0 sync_jobs rest f why bound (r.3 b since (tasks 0 sync_jobs ++ rest) (regrouped xs (tasks 0 sync_jobs) rest s)) refl k,
+      k.0.plays.ground ∙ r.0,
+      editors_after fs f r.1 (omega arith) k.0.plays k.0.works,
+      λ b since rest s. stops_in 0 sync_jobs rest f why bound (r.3 b since (tasks 0 sync_jobs ++ rest) (regrouped xs (tasks 0 sync_jobs) rest s)) refl k.0,
     )
 
 pub none_left : {X : Type 0} (xs : List X) (n : ℕ) → length xs ≡ n → (0 < n → false ≡ true) → reverse xs ≡ []

@@ -1,14 +1,13 @@
 -- What a phase leaves. Histories stand here with the newest entry first.
-use Rattle.std.specs.Prelude.{◌≡◌, ℕ, ◌<◌, ◌≤◌, List, [], ◌∷◌, ◌++◌, filter, ◌⊎◌, Result, Ok, Err}
+use Rattle.std.specs.Prelude.{◌≡◌, ℕ, ◌≤◌, List, [], ◌++◌, filter, ◌⊎◌, Result, Ok, Err}
 use Rattle.audit_model.specs.declared.step.StepRec.{StepRec}
 use Rattle.audit_model.specs.declared.script.ScriptLine.{ScriptLine}
-use Rattle.audit_model.specs.declared.script.Phase.{Phase}
 use Rattle.model_view.specs.declared.answers.Halt.{Halt}
 use Rattle.model_view.specs.declared.answers.Halt.TheVariants as halt
 use Rattle.audit_core.specs.Cores.{CoreView}
 use Rattle.script_rules.specs.Output.{ends_phase}
 use Rattle.script_rules.specs.Script.{HasRoom}
-use Rattle.script_rules.specs.RunLaws.{by, GoesAlong}
+use Rattle.script_rules.specs.RunLaws.{GoesAlong}
 use Rattle.script_rules.specs.Phased.{IsPhase, HasNoWorkers}
 use Rattle.script_rules.specs.Stopped.{held_after, phase_jobs}
 use Rattle.serial_run.specs.declared.editor.Editor.{Editor}

@@ -1,7 +1,6 @@
 -- How far the script has come at run time.
-use Rattle.std.specs.Prelude.{◌≡◌, ℕ, zero, suc, Bool, true, false, List, [], ◌∷◌, ◌++◌, length, slice_index_or, Option, Some, None, Result, Ok, Err}
+use Rattle.std.specs.Prelude.{◌≡◌, ℕ, Bool, true, false, List, [], ◌∷◌, ◌++◌, length, slice_index_or, Option, Some, None, Result, Ok, Err}
 use Rattle.audit_model.specs.declared.step.Call.{Call}
-use Rattle.audit_model.specs.declared.step.Call.TheVariants as calls
 use Rattle.audit_model.specs.declared.step.Reply.TheVariants as replies
 use Rattle.audit_model.specs.declared.step.StepRec.{StepRec}
 use Rattle.audit_model.specs.declared.script.Act.{Act}
@@ -10,7 +9,6 @@ use Rattle.audit_model.specs.Models.{IsModel}
 use Rattle.audit_model.specs.Pairs.{NumberedFrom}
 use Rattle.audit_model.specs.History.{Ground}
 use Rattle.audit_model.specs.Machine.{publish_reply}
-use Rattle.script_rules.specs.ScriptLines.{entry}
 use Rattle.model_view.specs.declared.answers.Halt.{Halt}
 use Rattle.audit_core.specs.Cores.{CoreView}
 use Rattle.serial_run.specs.declared.editor.Editor.{Editor}
@@ -18,7 +16,7 @@ use Rattle.script_rules.specs.Course.{Place, part, ready}
 use Rattle.script_rules.specs.Script.{Task, Course, sync_jobs, ready_all, turn, HasRoom, IsAt}
 use Rattle.script_rules.specs.Phased.{EndsReported}
 use Rattle.serial_run.specs.Editors.{Works, number_of, place_of}
-use Rattle.serial_run.specs.Plays.{Plays, PlaysQuietly, Stops, StopsQuietly, IfFull}
+use Rattle.serial_run.specs.Plays.{Plays, PlaysQuietly, StopsQuietly, IfFull}
 
 -- Actors by their numbers: the caller, and then the editors.
 

@@ -1,5 +1,5 @@
 -- What a run of a script leaves, phase by phase. Histories stand here with the newest entry first, journals with the oldest first.
-use Rattle.std.specs.Prelude.{◌≡◌, ℕ, List, [], ◌∷◌, ◌++◌, length, reverse, ◌⊎◌, Option, Some, None, Result, Ok, Err}
+use Rattle.std.specs.Prelude.{◌≡◌, ℕ, List, [], ◌++◌, length, reverse, ◌⊎◌, Option, Some, None, Result, Ok, Err}
 use Rattle.audit_model.specs.declared.step.StepRec.{StepRec}
 use Rattle.audit_model.specs.declared.step.Call.TheVariants as calls
 use Rattle.audit_model.specs.declared.step.Reply.TheVariants as replies
@@ -64,9 +64,9 @@ pub record HasStopped (g : Ground) (all : List Phase) (why : Halt) (old new : Co
   pub stopped : AreStopped all (returned all new.history)
   pub told : StaysTold why old new
 
--- The next phase was done and told, and the script has come to the rest; or it was stopped.
+-- The next phase was done and told, and the script has come to the rest, its history going on from the one before; or it was stopped.
 abbrev pub ComesOn : Ground → List Phase → List Phase → CoreView → CoreView → List Editor → Result PhaseText Halt → Type 0
-ComesOn g all rest old new es (Ok told) = HasCome g all rest new es × TellsPhase old new told.text (told.revision, told.report)
+ComesOn g all rest old new es (Ok told) = HasCome g all rest new es × TellsPhase old new told.text (told.revision, told.report) × IsLater old.history new.history
 ComesOn g all rest old new es (Err why) = HasStopped g all why old new es
 
 -- so many actors who have nothing

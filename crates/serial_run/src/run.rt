@@ -1,4 +1,4 @@
-//! A whole run of a script on a core.
+//! A run of a script on a core, phase by phase.
 ghost use Rattle.std.specs.Prelude.{◌≡◌, ◌∷◌, List, [], IfOk, IfErr};
 ghost use Rattle.audit_model.specs.declared.script.Phase.{Phase};
 ghost use Rattle.audit_model.specs.History.{Ground};

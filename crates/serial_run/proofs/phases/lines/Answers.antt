@@ -4,6 +4,12 @@ use Rattle.serial_run.proofs.Standing.{lines_on, lines_stopped, lines_end, next_
 use Rattle.serial_run.proofs.Buffering.{lines_told, buffer_is}
 use Rattle.serial_run.proofs.phases.lines.Goals as goal
 
+pub step-requires-clause-works : goal.step-requires-clause-works
+step-requires-clause-works g c =
+    let k = next_line c.loop-editor.rest.items c.pop.new.self.items c.in-Some.field-0 c.in-Some.ensures.items c.loop-editor.invariant.lines in
+    let l = c.in-Some.field-0 in
+    rw (elem_is c.loop-editor.editors.items l.editor _ c.index_mut.result.now c.index_mut.ensures.value (line_lt l (reverse c.pop.new.self.items) k)) (k.editors.each l.editor)
+
 pub step-requires-clause-free : goal.step-requires-clause-free
 step-requires-clause-free g c =
     let k = next_line c.loop-editor.rest.items c.pop.new.self.items c.in-Some.field-0 c.in-Some.ensures.items c.loop-editor.invariant.lines in

@@ -26,8 +26,8 @@ returns-in_err-lines-clause-leaves g c =
     let why = c.in_err-lines.field-0.0 in
     let ls = c.args.phase.lines in
     let r = runs_stopped (Unit {0}) PhaseText c.lines.new.core c.lines.new.editors.items (line_tasks ls) (tasks 0 sync_jobs) why c.in_err-lines.ensures.runs in
-    let n = lines_unended {A = Unit {0}} ls why c.requires.order.editors c.requires.ready.none c.requires.ready.room c.in_err-lines.ensures.runs in
-    rw (p.1, p.2) (inl (phase_stopped {A = PhaseText} c.lines.new.core c.lines.new.editors.items ls why c.requires.order.editors c.requires.ready.none c.requires.ready.room r n))
+    let n = lines_unended (Unit {0}) ls why c.requires.order.editors c.requires.ready.none c.requires.ready.room c.in_err-lines.ensures.runs in
+    rw (p.1, p.2) (inl (phase_stopped PhaseText c.lines.new.core c.lines.new.editors.items ls why c.requires.order.editors c.requires.ready.none c.requires.ready.room r n))
 
 pub sync-requires-clause-none_out : goal.sync-requires-clause-none_out
 sync-requires-clause-none_out g c = none_out c.in_ok-lines.ensures.runs.1 c.in_ok-lines.ensures.runs.2
@@ -46,7 +46,7 @@ returns-in_err-revision-clause-leaves g c =
     let ls = c.args.phase.lines in
     let r = phase_is {A = PhaseText} c.sync.new.core c.sync.new.caller (line_tasks ls) (Err why) c.in_ok-lines.ensures.runs (rw is at c.in_err-revision.ensures.leaves) in
     let n = sync_unended ls c.sync.new.caller why c.requires.order.editors c.requires.ready.none c.requires.ready.room c.in_ok-lines.ensures.runs c.in_err-revision.ensures.leaves in
-    rw (p.1, p.2) (inl (phase_stopped {A = PhaseText} c.sync.new.core _ ls why c.requires.order.editors c.requires.ready.none c.requires.ready.room r n))
+    rw (p.1, p.2) (inl (phase_stopped PhaseText c.sync.new.core _ ls why c.requires.order.editors c.requires.ready.none c.requires.ready.room r n))
 
 pub returns-in-Ok-join-clause-runs : goal.returns-in-Ok-join-clause-runs
 returns-in-Ok-join-clause-runs g c =
@@ -73,8 +73,8 @@ pub returns-clause-leaves : goal.returns-clause-leaves
 returns-clause-leaves g c =
     let is = elem_is c.lines.new.editors.items 0 _ c.index_mut.result.now c.index_mut.ensures.value (omega (arith, c.in_ok-lines.ensures.runs.1.count)) in
     let leaves = rw is at c.in_ok-revision.ensures.leaves in
-    let last = (c.in_ok-revision.revision, c.in_ok-revision.report) in
-    let text = in_order (buffer_at c.lines.new.buffers.items) ++ c.in_ok-revision.report in
+    let last : ℕ × List ℕ = (c.in_ok-revision.revision, c.in_ok-revision.report) in
+    let text : List ℕ = in_order (buffer_at c.lines.new.buffers.items) ++ c.in_ok-revision.report in
     inr (
       text,
       last,

@@ -2,6 +2,11 @@ use Rattle.std.proofs.lemmas.Result.{err_from_is_err_and}
 use Rattle.serial_run.proofs.Sweeping.{synced, sync_halted, synced_told}
 use Rattle.serial_run.proofs.phases.sync.Goals as goal
 
+pub returns-in_err-sweep-clause-leaves : goal.returns-in_err-sweep-clause-leaves
+returns-in_err-sweep-clause-leaves g c =
+    let p = err_from_is_err_and c.from_residual.result c.from_residual.ensures.1 in
+    rw (p.1, p.2) c.in_err-sweep.ensures
+
 pub returns-in_err-revision-clause-leaves : goal.returns-in_err-revision-clause-leaves
 returns-in_err-revision-clause-leaves g c =
     let p = err_from_is_err_and c.from_residual-in_err-revision.result c.from_residual-in_err-revision.ensures.1 in

@@ -1,7 +1,7 @@
 use Rattle.std.proofs.Common.{◌-◌, refl, reverse, List, ◌∙◌, sym, ap}
 use Rattle.std.proofs.lemmas.List.{reverse-reverse}
 use Rattle.serial_run.specs.declared.editor.Editor.{Editor}
-use Rattle.serial_run.proofs.Running.{last_held, returning_on, returning_ends}
+use Rattle.serial_run.proofs.Returning.{last_held, returning_on, returning_ends}
 use Rattle.serial_run.proofs.Standing.{none_left}
 use Rattle.serial_run.proofs.run.give_all_back.Goals as goal
 

@@ -1,5 +1,5 @@
 use Rattle.std.proofs.Common.{length}
-use Rattle.serial_run.proofs.Running.{AreReturning}
+use Rattle.serial_run.proofs.Returning.{AreReturning}
 use Rattle.serial_run.proofs.run.give_all_back.Given as goal
 
 abbrev pub invariant-loop-editor : goal.invariant-loop-editor

@@ -1,4 +1,4 @@
--- Lists of pairs as they are made, and the fields of a core without entries.
+-- Lists of lost pairs as they are made, and the fields of a core without entries.
 use Rattle.std.proofs.Common.{◌≡◌, ℕ, suc, ◌+◌, ◌<◌, ◌≤◌, Bool, true, false, not, ◌&&◌, cond, if◌then◌else◌, nat_lt, List, [], ◌∷◌, ◌++◌, map, filter, flat_map, length, take, get_or, Option, refl, arith, ap, sym, ◌∙◌}
 use Rattle.std.proofs.lemmas.List.{append-nil, take_more, map-append}
 use Rattle.std.proofs.lemmas.List.Elements.{filter-append}
@@ -19,29 +19,6 @@ use Rattle.dirty_board.specs.Rows.{new_row}
 use Rattle.dirty_board.specs.Tallying.{heading_of}
 use Rattle.audit_core.specs.Rows.{board_by, lost, lost_at, lost_by, makes_at}
 use Rattle.audit_core.specs.Kept.{IsKept}
-
--- the pairs of a specification that is for the model
-abbrev pub pair_list : Specification → List Instance → List Pair
-pair_list q m = map {B = Pair} (λ x. record { spec = q.number; elem = x.id }) (filter (λ x. may_apply q x.entity) m)
-
--- one more instance
-one_more : (b : Bool) (q : Specification) (x : Instance) → map {B = Pair} (λ (y : Instance). record { spec = q.number; elem = y.id }) (cond b (x ∷ []) []) ≡ (if b then record { spec = q.number; elem = x.id } ∷ [] else [])
-one_more true q x = refl
-one_more false q x = refl
-
--- a list with one more instance
-pairs_plus : (q : Specification) (m : List Instance) (x : Instance) → pair_list q (m ++ x ∷ []) ≡ pair_list q m ++ (if may_apply q x.entity then record { spec = q.number; elem = x.id } ∷ [] else [])
-pairs_plus q m x =
-    rw (filter-append (λ (y : Instance). may_apply q y.entity) m (x ∷ []), map-append {B = Pair} (λ (y : Instance). record { spec = q.number; elem = y.id }) (filter (λ (y : Instance). may_apply q y.entity) m) (filter (λ (y : Instance). may_apply q y.entity) (x ∷ [])))
-    (ap (λ (ps : List Pair). pair_list q m ++ ps) (one_more (may_apply q x.entity) q x))
-
--- the same of a list of which each is seen
-pub pairs_next : {X : Type 0} (f : X → Instance) (q : Specification) (xs : List X) (i : ℕ) (x : X) → i < length xs → x ≡ get_or xs i x → pair_list q (map f (take (i + 1) xs)) ≡ pair_list q (map f (take i xs)) ++ (if may_apply q (f x).entity then record { spec = q.number; elem = (f x).id } ∷ [] else [])
-pairs_next f q xs i x l e =
-    ap (λ zs. pair_list q (map f zs)) (take_more xs i x l ∙ ap (λ y. take i xs ++ y ∷ []) (sym e)) ∙ ap (pair_list q) (map-append f (take i xs) (x ∷ [])) ∙ pairs_plus q (map f (take i xs)) (f x)
-
-pub pairs_all : (q : Specification) (m : List Instance) → q.for_model ≡ true → pair_list q m ≡ pairs_of q m
-pairs_all q m e = rw e
 
 -- Lost pairs.
 

@@ -10,3 +10,4 @@ pub mod Lost
 pub mod CommitLaws
 pub mod BoardTallies
 pub mod Passing
+pub mod Listing

@@ -4,3 +4,4 @@ pub mod Rows
 pub mod Kept
 pub mod Commits
 pub mod Fitting
+pub mod Listing

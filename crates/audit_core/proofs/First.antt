@@ -1,5 +1,5 @@
 -- Lists of lost pairs as they are made, and the fields of a core without entries.
-use Rattle.std.proofs.Common.{◌≡◌, ℕ, suc, ◌+◌, ◌<◌, ◌≤◌, Bool, true, false, not, ◌&&◌, cond, if◌then◌else◌, nat_lt, List, [], ◌∷◌, ◌++◌, map, filter, flat_map, length, take, get_or, Option, refl, arith, ap, sym, ◌∙◌}
+use Rattle.std.proofs.Common.{◌≡◌, ℕ, suc, ◌+◌, ◌<◌, ◌≤◌, Bool, true, false, not, ◌&&◌, cond, if◌then◌else◌, nat_lt, List, [], ◌∷◌, ◌++◌, map, filter, flat_map, length, take, get_or, Option, Some, None, refl, arith, ap, sym, ◌∙◌}
 use Rattle.std.proofs.lemmas.List.{append-nil, take_more, map-append}
 use Rattle.std.proofs.lemmas.List.Elements.{filter-append}
 use Rattle.std.proofs.lemmas.Grind.{flat_map-append}
@@ -18,6 +18,8 @@ use Rattle.dirty_board.specs.declared.rows.Row.{Row}
 use Rattle.dirty_board.specs.Rows.{new_row}
 use Rattle.dirty_board.specs.Tallying.{heading_of}
 use Rattle.audit_core.specs.Rows.{board_by, lost, lost_at, lost_by, makes_at}
+use Rattle.audit_core.specs.Listing.{same_entity}
+use Rattle.std.proofs.lemmas.Slice.Eq.{bytes_eq-Decides}
 use Rattle.audit_core.specs.Kept.{IsKept}
 
 -- Lost pairs.
@@ -34,6 +36,29 @@ lost_next specs id one other i q l e =
     ∙ ap (λ (qs : List Specification). map {B = Pair} (λ (x : Specification). record { spec = x.number; elem = id }) qs) (filter-append (λ (x : Specification). makes_at x one && not (makes_at x other)) (take i specs) (q ∷ []))
     ∙ map-append {B = Pair} (λ (x : Specification). record { spec = x.number; elem = id }) (filter (λ (x : Specification). makes_at x one && not (makes_at x other)) (take i specs)) (filter (λ (x : Specification). makes_at x one && not (makes_at x other)) (q ∷ []))
     ∙ ap (λ (ps : List Pair). lost_at (take i specs) id one other ++ ps) (picked_one (makes_at q one && not (makes_at q other)) id q)
+
+-- Where both are of one entity no pair is lost.
+
+and_not : (a b : Bool) → a ≡ b → (a && not b) ≡ false
+and_not true true e = refl
+and_not true false e = e
+and_not false b e = refl
+
+none_lost : (id : ℕ) (t : Specification → Bool) → ((q : Specification) → t q ≡ false) → (specs : List Specification) → map {B = Pair} (λ (q : Specification). record { spec = q.number; elem = id }) (filter t specs) ≡ []
+none_lost id t h [] = refl
+none_lost id t h (q ∷ qs) = rw (h q) (none_lost id t h qs)
+
+same_makes : (one other : Option Instance) → same_entity one other ≡ true → (q : Specification) → makes_at q one ≡ makes_at q other
+same_makes None other e q = cc
+same_makes (Some x) None e q = cc
+same_makes (Some x) (Some y) e q = ap (λ name. q.for_model && may_apply q name) ((bytes_eq-Decides x.entity y.entity).0 e)
+
+pub lost_none : (specs : List Specification) (id : ℕ) (one other : Option Instance) → same_entity one other ≡ true → lost_at specs id one other ≡ []
+lost_none specs id one other e = none_lost id (λ q. makes_at q one && not (makes_at q other)) (λ q. and_not (makes_at q one) (makes_at q other) (same_makes one other e q)) specs
+
+-- so a list stays
+pub lost_stays : (ps : List Pair) (specs : List Specification) (id : ℕ) (one other : Option Instance) → same_entity one other ≡ true → ps ≡ ps ++ lost_at specs id one other
+lost_stays ps specs id one other e = sym (ap (λ qs. ps ++ qs) (lost_none specs id one other e) ∙ append-nil ps)
 
 -- one more key
 pub keys_next : (specs : List Specification) (m n : List Instance) (keys : List Key) (i : ℕ) (k : Key) → i < length keys → k ≡ get_or keys i k → lost specs m n (take (i + 1) keys) ≡ lost specs m n (take i keys) ++ lost_by specs m n k

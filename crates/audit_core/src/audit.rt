@@ -74,7 +74,8 @@ impl<'a> Core<'a> {
     /// `IFC4`; else, if an instance doesn't fit the schema, it tells the least id of such a one, and why.
     /// The ids of the instances have to be distinct, and there may be at most `limits.instances` of them.
     /// Besides, it may refuse for want of memory.
-    /// `O(n log n + s * n)` for `n` instances and `s` specifications.
+    /// `O(n log n + s * n)` for `n` instances and `s` specifications, each of which is asked once for each
+    /// distinct entity name.
     pub fn new(
         alloc: Global,
         schema: &'a SchemaTable,

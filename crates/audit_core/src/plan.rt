@@ -21,7 +21,7 @@ pub enum Planned {
 }
 
 /// Judges the commit of these edits, drafted on the revision `base`, and makes the next snapshot. What
-/// the edits cost to be judged and to be done, and `O(s * k)` for `s` specifications and `k` changed keys.
+/// the edits cost to be judged and to be done, and what `lost_pairs` costs.
 pub fn plan_commit(
     alloc: Global,
     schema: &SchemaTable,

@@ -62,8 +62,8 @@ impl<'a> Core<'a> {
     /// Judges a draft, and makes all that its commit needs. The draft's base has to be at most the
     /// current revision. Where it is accepted the core is as before, and `finish` makes the commit. A
     /// refused draft adds its entry and comes back; where the journal is full, or memory is wanting, the
-    /// draft comes back too and the core is as before. It costs what the edits
-    /// touch, and `O(s * k)` for `s` specifications and `k` changed keys.
+    /// draft comes back too and the core is as before. It costs what the edits touch; each specification is
+    /// asked of the elements that come, go or change their entity, and of no others.
     pub fn prepare(
         &mut self,
         alloc: Global,

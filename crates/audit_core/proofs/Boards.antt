@@ -10,7 +10,6 @@ use Rattle.audit_model.specs.declared.step.Given.{Given}
 use Rattle.audit_model.specs.Pairs.{pairs, same_pair}
 use Rattle.audit_model.specs.History.{Ground, settled_by, stands_by, model_after, without_claim}
 use Rattle.audit_model.proofs.Apart.{AreApart, same_pair-true}
-use Rattle.dirty_board.specs.declared.rows.Row.{Row}
 use Rattle.dirty_board.specs.declared.rows.Kept.{Kept}
 use Rattle.dirty_board.specs.Rows.{keeping, least_claimable, least_unsettled, marking, with_row}
 use Rattle.audit_core.specs.Rows.{board_by, found, is_of, row_by}

@@ -1,9 +1,9 @@
 -- What an accepted commit makes of the rows, and the core's fields after it.
-use Rattle.std.proofs.Common.{◌≡◌, ℕ, suc, ◌+◌, ◌<◌, ◌≤◌, Bool, true, false, not, ◌&&◌, ◌||◌, ◌==◌, cond, if◌then◌else◌, nat_lt, List, [], ◌∷◌, map, filter, fold, length, Option, Some, None, refl, arith, ap, sym, subst, ◌∙◌}
+use Rattle.std.proofs.Common.{◌≡◌, ℕ, suc, ◌+◌, ◌<◌, ◌≤◌, Bool, true, false, not, ◌&&◌, ◌||◌, ◌==◌, if◌then◌else◌, nat_lt, List, [], ◌∷◌, map, filter, fold, length, Option, Some, None, refl, arith, ap, sym, subst, ◌∙◌}
 use Rattle.std.specs.List.{list_any, list_all}
 use Rattle.std.specs.FinMap.{FinMap}
 use Rattle.std.specs.Ordering.{nat_cmp}
-use Rattle.std.proofs.lemmas.Bool.{false≢true, true≢false, ltb-true}
+use Rattle.std.proofs.lemmas.Bool.{true≢false, ltb-true}
 use Rattle.ifc_base.specs.declared.value.Instance.{Instance}
 use Rattle.ifc_base.specs.declared.key.Key.{Key}
 use Rattle.ifc_base.specs.KeyOrder.{key_eq, key_eq-Decides}
@@ -37,11 +37,10 @@ use Rattle.audit_model.proofs.PairOrder.{pairs_ascend}
 use Rattle.audit_model.proofs.Tests.{Each, Each-filter, filter-length, or_true}
 use Rattle.model_view.specs.Views.{SnapshotView}
 use Rattle.inverse_index.specs.Log.{last_in}
-use Rattle.inverse_index.specs.Changed.{KeysAscend}
 use Rattle.dirty_board.specs.declared.rows.Row.{Row}
 use Rattle.dirty_board.specs.declared.rows.Kept.{Kept}
 use Rattle.dirty_board.specs.Needing.{is_among}
-use Rattle.dirty_board.specs.Rows.{dropping, marked, needs_key, new_row, unsettled_by}
+use Rattle.dirty_board.specs.Rows.{dropping, marked, new_row, unsettled_by}
 use Rattle.dirty_board.specs.Rooms.{pairs_of, replaced, with_pair, without_pairs, AreNew}
 use Rattle.dirty_board.specs.Tallying.{BoardView, having}
 use Rattle.audit_core.specs.Commits.{IsPlan}

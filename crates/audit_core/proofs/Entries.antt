@@ -28,7 +28,7 @@ use Rattle.dirty_board.specs.Rows.{keeping, marking, with_row}
 use Rattle.dirty_board.specs.Rows as rows
 use Rattle.dirty_board.specs.Tallying.{BoardView, having}
 use Rattle.audit_core.specs.Kept.{IsKept}
-use Rattle.audit_core.specs.Rows.{board_by, board_of, found, is_of}
+use Rattle.audit_core.specs.Rows.{board_by, found, is_of}
 use Rattle.audit_core.proofs.Boards.{claimable_on_board, unsettled_on_board, board_taken, board_left, board_settled}
 use Rattle.audit_core.proofs.Ends.{OfPair, apart_out, none_out, of_pair, removed_shorter, rising_out}
 use Rattle.audit_core.proofs.Uses.{stands_when}

@@ -1,5 +1,5 @@
 -- Lists of lost pairs as they are made, and the fields of a core without entries.
-use Rattle.std.proofs.Common.{◌≡◌, ℕ, suc, ◌+◌, ◌<◌, ◌≤◌, Bool, true, false, not, ◌&&◌, cond, if◌then◌else◌, nat_lt, List, [], ◌∷◌, ◌++◌, map, filter, flat_map, length, take, get_or, Option, Some, None, refl, arith, ap, sym, ◌∙◌}
+use Rattle.std.proofs.Common.{◌≡◌, ℕ, suc, ◌+◌, ◌<◌, ◌≤◌, Bool, true, false, not, ◌&&◌, cond, if◌then◌else◌, nat_lt, List, [], ◌∷◌, ◌++◌, map, filter, length, take, get_or, Option, Some, None, refl, arith, ap, sym, ◌∙◌}
 use Rattle.std.proofs.lemmas.List.{append-nil, take_more, map-append}
 use Rattle.std.proofs.lemmas.List.Elements.{filter-append}
 use Rattle.std.proofs.lemmas.Grind.{flat_map-append}
@@ -10,11 +10,10 @@ use Rattle.ifc_base.specs.declared.key.Key.{Key}
 use Rattle.audit_model.specs.declared.specification.Specification.{Specification}
 use Rattle.audit_model.specs.declared.verdict.Pair.{Pair}
 use Rattle.audit_model.specs.Models.{IsModel, model_of_file, with_instance}
-use Rattle.audit_model.specs.Pairs.{pairs, pairs_of, may_apply, NumberedFrom}
+use Rattle.audit_model.specs.Pairs.{pairs, may_apply, NumberedFrom}
 use Rattle.audit_model.specs.History.{Ground}
 use Rattle.inverse_index.specs.Log.{last_in}
 use Rattle.model_view.specs.Views.{SnapshotView, IsSnapshotOf}
-use Rattle.dirty_board.specs.declared.rows.Row.{Row}
 use Rattle.dirty_board.specs.Rows.{new_row}
 use Rattle.dirty_board.specs.Tallying.{heading_of}
 use Rattle.audit_core.specs.Rows.{board_by, lost, lost_at, lost_by, makes_at}

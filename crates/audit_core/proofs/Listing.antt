@@ -1,5 +1,5 @@
 -- The lists of pairs as the instances are passed.
-use Rattle.std.proofs.Common.{◌≡◌, ℕ, suc, zero, ◌+◌, ◌<◌, Bool, true, false, ◌&&◌, cond, if◌then◌else◌, List, [], ◌∷◌, ◌++◌, map, filter, flat_map, length, take, get_or, Option, Some, None, Vec, refl, arith, add-one, ap, sym, subst, ◌∙◌}
+use Rattle.std.proofs.Common.{◌≡◌, ℕ, suc, zero, ◌+◌, ◌<◌, Bool, true, false, ◌&&◌, cond, if◌then◌else◌, List, [], ◌∷◌, ◌++◌, map, filter, flat_map, length, take, get_or, Some, None, Vec, refl, arith, add-one, ap, sym, ◌∙◌}
 use Rattle.std.proofs.Math.ListN.{set, get_or-map}
 use Rattle.std.proofs.lemmas.List.{take_more, map-append, map-set, length-map}
 use Rattle.std.proofs.lemmas.List.Elements.{filter-append}

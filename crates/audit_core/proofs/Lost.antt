@@ -5,13 +5,13 @@ use Rattle.std.specs.List.Sorted.{IsStrictlySortedBy}
 use Rattle.std.specs.Ordering.{is_eq}
 use Rattle.std.specs.declared.cmp.Ordering.{Ordering}
 use Rattle.std.specs.declared.cmp.Ordering.TheVariants.{Less}
-use Rattle.std.proofs.lemmas.Bool.{and_parts, eqb-true, eq-eqb, ne_eqb, true≢false, false≢true}
+use Rattle.std.proofs.lemmas.Bool.{and_parts, eqb-true, ne_eqb, true≢false, false≢true}
 use Rattle.std.proofs.lemmas.List.Folds.{list_any-append}
 use Rattle.ifc_base.specs.declared.value.Instance.{Instance}
 use Rattle.ifc_base.specs.declared.key.Role.{Role}
 use Rattle.ifc_base.specs.declared.key.Key.{Key}
 use Rattle.ifc_base.specs.declared.key.Key.TheVariants.{Inst, Refs}
-use Rattle.ifc_base.specs.KeyOrder.{key_cmp, key_eq, key_ties, key_eq-Decides, role_rank}
+use Rattle.ifc_base.specs.KeyOrder.{key_cmp, key_eq, key_ties, key_eq-Decides}
 use Rattle.schema_table.specs.Schema.{Schema}
 use Rattle.audit_model.specs.declared.verdict.Pair.{Pair}
 use Rattle.audit_model.specs.declared.specification.Specification.{Specification}
@@ -20,7 +20,7 @@ use Rattle.audit_model.specs.Keys.{changes}
 use Rattle.audit_model.specs.Pairs.{same_pair, pairs, NumberedFrom}
 use Rattle.audit_model.proofs.Frame.{kept_content}
 use Rattle.audit_model.proofs.PairLists.{makes, pair_with, made_of, pairs_made}
-use Rattle.audit_model.proofs.Tests.{Each, list_any-and, or_true}
+use Rattle.audit_model.proofs.Tests.{Each, list_any-and}
 use Rattle.inverse_index.specs.Changed.{KeysAscend}
 use Rattle.dirty_board.specs.Needing.{is_among}
 use Rattle.dirty_board.specs.Rooms.{AreNew}

@@ -1,6 +1,5 @@
 -- Lists of pairs in order: two of them are one where they have the same members; and what adding and leaving out pairs does to them.
 use Rattle.std.proofs.Common.{◌≡◌, Bool, true, false, not, ◌&&◌, ◌||◌, cond, List, [], ◌∷◌, ◌++◌, filter, fold, refl, sym, subst, ap, ◌∙◌}
-use Rattle.std.specs.List.{list_any}
 use Rattle.std.proofs.lemmas.Bool.{true≢false, false≢true}
 use Rattle.std.proofs.lemmas.List.Folds.{list_any-append}
 use Rattle.audit_model.specs.declared.verdict.Pair.{Pair}
@@ -11,7 +10,7 @@ use Rattle.audit_model.proofs.Claims.{same_pair-refl}
 use Rattle.audit_model.proofs.Tests.{Each, Each-filter, Each-weaker, or_true}
 use Rattle.dirty_board.specs.Needing.{is_among}
 use Rattle.dirty_board.specs.Rows.{below}
-use Rattle.audit_core.proofs.Order.{to_below, below_trans, not_below, not_itself, other_below, same_swap}
+use Rattle.audit_core.proofs.Order.{to_below, below_trans, not_below, not_itself, other_below}
 
 abbrev Above : Pair → List Pair → Type 0
 Above p ps = Each (λ (q : Pair). below p q ≡ true) ps

@@ -1,6 +1,6 @@
 -- The rows of the board by the history: one for each pair of the current model, with what is kept of it where the pair is settled, and
 -- whether a claim of it is out; and what a commit does to them.
-use Rattle.std.specs.Prelude.{ℕ, Bool, false, not, ◌&&◌, if◌then◌else◌, List, [], ◌∷◌, Option, Some, None, map, filter, flat_map, fold, true}
+use Rattle.std.specs.Prelude.{ℕ, Bool, false, not, ◌&&◌, if◌then◌else◌, List, [], Option, Some, None, map, filter, flat_map, fold, true}
 use Rattle.std.specs.List.{list_any}
 use Rattle.ifc_base.specs.declared.value.Instance.{Instance}
 use Rattle.ifc_base.specs.declared.key.Key.{Key}

@@ -1,10 +1,10 @@
 -- What a call of the core does to its history, and what ends a claim asks.
-use Rattle.std.specs.Prelude.{◌≡◌, ◌≤◌, true, ℕ, ◌∷◌, None, Some}
+use Rattle.std.specs.Prelude.{◌≡◌, ◌≤◌, true, ℕ, ◌∷◌, Some}
 use Rattle.audit_model.specs.declared.verdict.Pair.{Pair}
 use Rattle.audit_model.specs.declared.step.Given.{Given}
 use Rattle.audit_model.specs.declared.step.StepRec.{StepRec}
-use Rattle.audit_model.specs.History.{current, out, claim_numbered}
-use Rattle.audit_model.specs.Machine.{MayFollow, Holds, least_changed, is_full}
+use Rattle.audit_model.specs.History.{out, claim_numbered}
+use Rattle.audit_model.specs.Machine.{MayFollow, is_full}
 use Rattle.model_view.specs.declared.answers.Halt.{Halt}
 use Rattle.model_view.specs.declared.answers.Halt.TheVariants as halt
 use Rattle.audit_core.specs.Cores.{CoreView}

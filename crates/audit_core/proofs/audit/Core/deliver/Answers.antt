@@ -1,6 +1,6 @@
-use Rattle.std.proofs.Common.{◌≡◌, ◌∙◌, refl, sym, ap, find, None, Some}
+use Rattle.std.proofs.Common.{◌≡◌, ◌∙◌, refl, sym, ap, find, Some}
 use Rattle.audit_model.specs.History.{changed_since}
-use Rattle.model_view.specs.Views.{FindingView, ClaimView}
+use Rattle.model_view.specs.Views.{ClaimView}
 use Rattle.model_view.specs.Answers.{given_of}
 use Rattle.audit_core.proofs.Uses.{stale_of}
 use Rattle.audit_core.proofs.audit.Core.deliver.Goals as goal

@@ -1,4 +1,4 @@
-use Rattle.std.proofs.Common.{◌≡◌, ℕ, ◌+◌, ◌≤◌, ◌∙◌, arith, if◌then◌else◌, length}
+use Rattle.std.proofs.Common.{◌≡◌, ◌+◌, ◌∙◌, arith, if◌then◌else◌, length}
 use Rattle.std.specs.List.{list_any}
 use Rattle.ifc_base.specs.declared.key.Key.{Key}
 use Rattle.ifc_base.specs.KeyOrder.{key_eq}

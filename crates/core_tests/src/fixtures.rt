@@ -22,8 +22,8 @@ type Entity = (
     &'static [&'static str],
 );
 
-/// A few entities of IFC 4 (ISO 16739-1).
-const ENTITIES: [Entity; 6] = [
+/// A few entities of IFC 4 (ISO 16739-1), and one with two attributes of one name.
+const ENTITIES: [Entity; 7] = [
     (
         "IFCROOT",
         "",
@@ -45,6 +45,7 @@ const ENTITIES: [Entity; 6] = [
         &[],
     ),
     ("IFCGROUP", "IFCROOT", false, &["ObjectType"], &[]),
+    ("SHARING", "IFCGROUP", false, &["Name"], &[]),
     (
         "IFCRELDEFINESBYTYPE",
         "IFCROOT",

@@ -57,7 +57,7 @@ fn a_prepared_commit_outlasts_a_full_claim(rt: HostRuntime) -> Result<(), Fail> 
     assert_eq!(rt; core.pairs(), 2);
     assert_eq!(rt; finish_after_full(alloc, &mut core, edit), Ok(Some(1)));
     assert_eq!(rt; core.pairs(), 1);
-    assert_eq!(rt; core.journal().as_slice().len(), 2);
+    assert_eq!(rt; core.journal().len(), 2);
     let journal = core.into_journal();
     assert_eq!(rt; journal.steps().as_slice().len(), 2);
     assert_eq!(rt; CoreJournal::empty(alloc).steps().as_slice().len(), 0);

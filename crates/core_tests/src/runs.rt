@@ -4,7 +4,7 @@ ghost use Rattle.ifc_base.specs.Ids.{HasDistinctIds};
 use crate::fixtures::{file, schema, specifications};
 use crate::rows::Change::{Add, Remove, Set};
 use crate::rows::Do::{Begin, Commit, Give, Publish, Return, Take};
-use crate::rows::{Row, acts, reply_text};
+use crate::rows::{Change, Row, acts, reply_text};
 use audit_core::{Core, CoreJournal};
 use audit_model::{Limits, Reply, ReportText, StepRec};
 use audit_run::{Asked, Hands, give_all_back, run};
@@ -283,7 +283,281 @@ const DANGLED: [Row; 6] = [
     (1, Commit(&[Remove(11)]), "refused dangling #10 #11"),
 ];
 
-const CASES: [Case; 7] = [
+/// An edit of an instance that a commit after the base changed.
+const TAKEN_SINCE: Change = Set(11, "Name", "'B'");
+
+/// An id that is there.
+const THERE: Change = Add("#10=IFCGROUP('g',$,$,$,$);");
+
+/// An id that isn't there.
+const MISSING: Change = Remove(13);
+
+/// An attribute that the entity hasn't.
+const UNNAMED: Change = Set(10, "Colour", "$");
+
+/// A value that doesn't fit the schema.
+const MISFIT: Change = Set(10, "Name", "*");
+
+/// One instance more than the limit allows.
+const CROWD: Change = Add("#14=IFCGROUP('g',$,$,$,$);");
+
+/// A reference to an instance that is missing, which is seen at the end alone.
+const LOOSE: Change = Set(10, "Name", "#96");
+
+/// Of two edits that can't be done, the one that comes first refuses the commit, whichever causes they have; and
+/// a reference is missing only where all edits can be done.
+const PAIRS: [Row; 88] = [
+    (1, Begin, "began 0"),
+    (101, Begin, "began 0"),
+    (102, Begin, "began 0"),
+    (103, Begin, "began 0"),
+    (104, Begin, "began 0"),
+    (105, Begin, "began 0"),
+    (106, Begin, "began 0"),
+    (107, Begin, "began 0"),
+    (108, Begin, "began 0"),
+    (109, Begin, "began 0"),
+    (110, Begin, "began 0"),
+    (111, Begin, "began 0"),
+    (112, Begin, "began 0"),
+    (113, Begin, "began 0"),
+    (114, Begin, "began 0"),
+    (115, Begin, "began 0"),
+    (116, Begin, "began 0"),
+    (117, Begin, "began 0"),
+    (118, Begin, "began 0"),
+    (119, Begin, "began 0"),
+    (120, Begin, "began 0"),
+    (121, Begin, "began 0"),
+    (122, Begin, "began 0"),
+    (123, Begin, "began 0"),
+    (124, Begin, "began 0"),
+    (125, Begin, "began 0"),
+    (126, Begin, "began 0"),
+    (127, Begin, "began 0"),
+    (128, Begin, "began 0"),
+    (129, Begin, "began 0"),
+    (130, Begin, "began 0"),
+    (131, Begin, "began 0"),
+    (132, Begin, "began 0"),
+    (133, Begin, "began 0"),
+    (134, Begin, "began 0"),
+    (135, Begin, "began 0"),
+    (136, Begin, "began 0"),
+    (137, Begin, "began 0"),
+    (138, Begin, "began 0"),
+    (139, Begin, "began 0"),
+    (140, Begin, "began 0"),
+    (141, Begin, "began 0"),
+    (142, Begin, "began 0"),
+    (
+        1,
+        Commit(&[Set(11, "Name", "'A'"), Add("#12=IFCGROUP('g',$,$,$,$);")]),
+        "made 1",
+    ),
+    (
+        101,
+        Commit(&[TAKEN_SINCE, THERE]),
+        "refused 1 conflict #11 1",
+    ),
+    (
+        102,
+        Commit(&[TAKEN_SINCE, MISSING]),
+        "refused 1 conflict #11 1",
+    ),
+    (
+        103,
+        Commit(&[TAKEN_SINCE, UNNAMED]),
+        "refused 1 conflict #11 1",
+    ),
+    (
+        104,
+        Commit(&[TAKEN_SINCE, MISFIT]),
+        "refused 1 conflict #11 1",
+    ),
+    (
+        105,
+        Commit(&[TAKEN_SINCE, CROWD]),
+        "refused 1 conflict #11 1",
+    ),
+    (
+        106,
+        Commit(&[TAKEN_SINCE, LOOSE]),
+        "refused 1 conflict #11 1",
+    ),
+    (107, Commit(&[THERE, TAKEN_SINCE]), "refused 1 taken #10"),
+    (108, Commit(&[THERE, MISSING]), "refused 1 taken #10"),
+    (109, Commit(&[THERE, UNNAMED]), "refused 1 taken #10"),
+    (110, Commit(&[THERE, MISFIT]), "refused 1 taken #10"),
+    (111, Commit(&[THERE, CROWD]), "refused 1 taken #10"),
+    (112, Commit(&[THERE, LOOSE]), "refused 1 taken #10"),
+    (
+        113,
+        Commit(&[MISSING, TAKEN_SINCE]),
+        "refused 1 missing #13",
+    ),
+    (114, Commit(&[MISSING, THERE]), "refused 1 missing #13"),
+    (115, Commit(&[MISSING, UNNAMED]), "refused 1 missing #13"),
+    (116, Commit(&[MISSING, MISFIT]), "refused 1 missing #13"),
+    (117, Commit(&[MISSING, CROWD]), "refused 1 missing #13"),
+    (118, Commit(&[MISSING, LOOSE]), "refused 1 missing #13"),
+    (
+        119,
+        Commit(&[UNNAMED, TAKEN_SINCE]),
+        "refused 1 attribute #10 Colour",
+    ),
+    (
+        120,
+        Commit(&[UNNAMED, THERE]),
+        "refused 1 attribute #10 Colour",
+    ),
+    (
+        121,
+        Commit(&[UNNAMED, MISSING]),
+        "refused 1 attribute #10 Colour",
+    ),
+    (
+        122,
+        Commit(&[UNNAMED, MISFIT]),
+        "refused 1 attribute #10 Colour",
+    ),
+    (
+        123,
+        Commit(&[UNNAMED, CROWD]),
+        "refused 1 attribute #10 Colour",
+    ),
+    (
+        124,
+        Commit(&[UNNAMED, LOOSE]),
+        "refused 1 attribute #10 Colour",
+    ),
+    (
+        125,
+        Commit(&[MISFIT, TAKEN_SINCE]),
+        "refused 1 schema #10 derived 3",
+    ),
+    (
+        126,
+        Commit(&[MISFIT, THERE]),
+        "refused 1 schema #10 derived 3",
+    ),
+    (
+        127,
+        Commit(&[MISFIT, MISSING]),
+        "refused 1 schema #10 derived 3",
+    ),
+    (
+        128,
+        Commit(&[MISFIT, UNNAMED]),
+        "refused 1 schema #10 derived 3",
+    ),
+    (
+        129,
+        Commit(&[MISFIT, CROWD]),
+        "refused 1 schema #10 derived 3",
+    ),
+    (
+        130,
+        Commit(&[MISFIT, LOOSE]),
+        "refused 1 schema #10 derived 3",
+    ),
+    (131, Commit(&[CROWD, TAKEN_SINCE]), "refused 1 instances"),
+    (132, Commit(&[CROWD, THERE]), "refused 1 instances"),
+    (133, Commit(&[CROWD, MISSING]), "refused 1 instances"),
+    (134, Commit(&[CROWD, UNNAMED]), "refused 1 instances"),
+    (135, Commit(&[CROWD, MISFIT]), "refused 1 instances"),
+    (136, Commit(&[CROWD, LOOSE]), "refused 1 instances"),
+    (
+        137,
+        Commit(&[LOOSE, TAKEN_SINCE]),
+        "refused 2 conflict #11 1",
+    ),
+    (138, Commit(&[LOOSE, THERE]), "refused 2 taken #10"),
+    (139, Commit(&[LOOSE, MISSING]), "refused 2 missing #13"),
+    (
+        140,
+        Commit(&[LOOSE, UNNAMED]),
+        "refused 2 attribute #10 Colour",
+    ),
+    (
+        141,
+        Commit(&[LOOSE, MISFIT]),
+        "refused 2 schema #10 derived 3",
+    ),
+    (142, Commit(&[LOOSE, CROWD]), "refused 2 instances"),
+    (1, Begin, "began 1"),
+    (1, Commit(&[TAKEN_SINCE]), "made 2"),
+];
+
+/// The edits of a draft see those before them, and of two attributes of one name the first is set.
+const DRAFTS: [Row; 8] = [
+    (1, Begin, "began 0"),
+    (
+        1,
+        Commit(&[
+            Add("#12=SHARING('g',$,$,$,$,$);"),
+            Set(12, "Name", "'X'"),
+            Set(12, "Name", "*"),
+        ]),
+        "refused 3 schema #12 derived 3",
+    ),
+    (1, Begin, "began 0"),
+    (
+        1,
+        Commit(&[
+            Add("#12=SHARING('g',$,$,$,$,$);"),
+            Remove(12),
+            Set(12, "Name", "'X'"),
+        ]),
+        "refused 3 missing #12",
+    ),
+    (1, Begin, "began 0"),
+    (
+        1,
+        Commit(&[
+            Remove(10),
+            Add("#10=IFCGROUP('g',$,$,$,$);"),
+            Add("#12=SHARING('g',$,$,$,$,$);"),
+            Set(12, "ObjectType", "#10"),
+        ]),
+        "made 1",
+    ),
+    (1, Begin, "began 1"),
+    (1, Commit(&[Remove(10)]), "refused dangling #12 #10"),
+];
+
+/// Two editors begin on one revision; the second has a conflict where the first changed what it edits, and none
+/// elsewhere. What is refused leaves nothing.
+const EDITORS: [Row; 14] = [
+    (1, Begin, "began 0"),
+    (2, Begin, "began 0"),
+    (3, Begin, "began 0"),
+    (1, Commit(&[Set(11, "Name", "'A'")]), "made 1"),
+    (
+        2,
+        Commit(&[Set(11, "Name", "'B'")]),
+        "refused 1 conflict #11 1",
+    ),
+    (3, Commit(&[Set(10, "Name", "'C'")]), "made 2"),
+    (1, Begin, "began 2"),
+    (
+        1,
+        Commit(&[
+            Add("#12=IFCGROUP('g',$,$,$,$);"),
+            Set(10, "Name", "'X'"),
+            Set(10, "Colour", "'red'"),
+        ]),
+        "refused 3 attribute #10 Colour",
+    ),
+    (17, Take, "claim 1: 1 #10 at 2"),
+    (17, Give, "used"),
+    (17, Take, "claim 2: 1 #11 at 2"),
+    (17, Give, "used"),
+    (17, Take, "idle"),
+    (0, Publish, "report 2"),
+];
+
+const CASES: [Case; 10] = [
     (1, 2, WALLS, &FULL, &[]),
     (3, 2, WALLS, &FULL_BUT_ENDS, &[]),
     (20, 2, WALLS, &CLAIMS, &[]),
@@ -300,6 +574,17 @@ const CASES: [Case; 7] = [
     (50, 9, WALLS, &STALE, &[]),
     (90, 5, WALLS, &REFUSALS, &[]),
     (20, 2, DANGLING, &DANGLED, &[]),
+    (200, 2, WALLS, &PAIRS, &[]),
+    (20, 2, WALLS, &DRAFTS, &[]),
+    (
+        30,
+        3,
+        WALLS,
+        &EDITORS,
+        &[
+            "report 2\nspec 1 pass applicable 2 failed 0\nspec 2 pass applicable 0 failed 0\nend pass\n",
+        ],
+    ),
 ];
 
 /// The entry at this place is the reply to the actor, in these words.

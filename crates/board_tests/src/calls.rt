@@ -5,7 +5,8 @@ ghost use Rattle.dirty_board.specs.Rooms.{pairs_of, AreNew};
 
 use crate::dice::Dice;
 use crate::plain::{
-    Found, Listing, add, change, count, is_kept, is_row, keep, least, mark_out, remove,
+    Found, Listing, add, applicable, drop_needing, failing, is_kept, is_row, is_unmet, keep, least,
+    mark_out, remove, unmet,
 };
 use audit_model::{Facets, Occurs, Pair, Requirements, Specification, Tally, Verdict};
 use dirty_board::{Board, Row};
@@ -96,15 +97,6 @@ const ELEMENTS: u32 = 400;
 /// How many ids keys are of.
 const IDS: u32 = 60;
 
-/// What verdicts say: the requirements that aren't met, or nothing where the specification doesn't apply.
-const UNMET: [Option<&'static [u32]>; 5] = [
-    None,
-    Some(&[]),
-    Some(&[1]),
-    Some(&[2, 3]),
-    Some(&[1, 2, 3]),
-];
-
 /// The roles of keys; of the others keys are of the instance itself.
 const ROLES: [Option<Role>; 4] = [None, None, Some(Role::Kind), Some(Role::Fills)];
 
@@ -144,13 +136,18 @@ fn some_key(dice: &mut Dice) -> Result<Key, Memory> {
 }
 
 fn some_found(dice: &mut Dice) -> Result<Found, Memory> {
-    let unmet = UNMET[dice.below(5) as usize];
-    let needs = [some_key(dice)?, some_key(dice)?];
-    Ok(Found { unmet, needs })
+    let one = some_key(dice)?;
+    let other = some_key(dice)?;
+    let verdict = dice.below(5) as usize;
+    Ok(Found {
+        verdict,
+        one,
+        other,
+    })
 }
 
-fn verdict(alloc: Global, found: &Found) -> Result<Verdict, Memory> {
-    match found.unmet {
+fn verdict(alloc: Global, place: usize) -> Result<Verdict, Memory> {
+    match unmet(place) {
         None => Ok(Verdict::NotApplicable),
         Some(unmet) => {
             let numbers = unmet.to_vec(alloc)?;
@@ -163,45 +160,50 @@ fn settle(
     alloc: Global,
     board: &mut Board,
     plain: &mut [Listing],
-    pair: Pair,
-    found: Found,
+    pair: &Pair,
+    found: &Found,
 ) -> Result<(), Memory> {
-    let needs = Keys::from_vec(found.needs.to_vec(alloc)?);
-    let verdict = verdict(alloc, &found)?;
+    let needs = Keys::from_vec(vec![in alloc; found.one, found.other]?);
+    let verdict = verdict(alloc, found.verdict)?;
     board
-        .settle(alloc, pair, verdict, needs)
+        .settle(alloc, *pair, verdict, needs)
         .map_err(|back| back.0)?;
-    keep(plain, pair, Some(found));
+    keep(plain, pair, found);
     Ok(())
 }
 
-fn mark_keys(
+fn mark(
     alloc: Global,
     board: &mut Board,
     plain: &mut [Listing],
-    keys: [Key; 2],
+    dice: &mut Dice,
 ) -> Result<(), Memory> {
-    board.mark(&Keys::from_vec(keys.to_vec(alloc)?));
-    for key in &keys {
-        change(plain, *key);
+    let one = some_key(dice)?;
+    let other = some_key(dice)?;
+    let keys = Keys::from_vec(vec![in alloc; one, other]?);
+    board.mark(&keys);
+    for key in keys.as_slice() {
+        drop_needing(plain, key);
     }
     Ok(())
 }
 
-fn take_out(board: &mut Board, plain: &mut [Listing], pair: Pair) {
-    board.take_out(pair);
+fn take_out(board: &mut Board, plain: &mut [Listing], pair: &Pair) {
+    board.take_out(*pair);
     mark_out(plain, pair, true);
 }
 
-fn put_back(board: &mut Board, plain: &mut [Listing], pair: Pair) {
-    board.put_back(pair);
+fn put_back(board: &mut Board, plain: &mut [Listing], pair: &Pair) {
+    board.put_back(*pair);
     mark_out(plain, pair, false);
 }
 
-fn is_listed(rows: &[Row], pair: Pair) -> bool
-    ensures { result ≡ is_among (pairs_of rows.now) pair }
+/// Whether the pair has a row.
+#[tactic(auto, using(crate::proofs::Listing::listed))]
+fn is_listed(rows: &[Row], pair: &Pair) -> bool
+    ensures { result ≡ is_among (pairs_of rows.now) pair.now }
 {
-    rows.iter().any(|row| row.pair == pair)
+    rows.iter().any(|row| row.pair.spec == pair.spec && row.pair.elem == pair.elem)
 }
 
 /// Whether these are at most two pairs, distinct and not listed.
@@ -210,8 +212,12 @@ fn are_new(rows: &[Row], come: &[Pair]) -> bool
 {
     match come {
         [] => true,
-        [one] => !is_listed(rows, *one),
-        [one, other] => !is_listed(rows, *one) && !is_listed(rows, *other) && *one != *other,
+        [one] => !is_listed(rows, one),
+        [one, other] => {
+            !is_listed(rows, one)
+                && !is_listed(rows, other)
+                && !(one.spec == other.spec && one.elem == other.elem)
+        }
         _ => false,
     }
 }
@@ -230,12 +236,31 @@ fn replace(
     let room = board.make_room(alloc, gone, come)?;
     board.replace_pairs(room);
     for pair in gone {
-        remove(plain, *pair);
+        remove(plain, pair);
     }
     for pair in come {
-        add(plain, *pair)?;
+        add(plain, pair)?;
     }
     Ok(())
+}
+
+/// Makes the call of both, if it is one that changes which pairs are listed.
+fn make_change(
+    alloc: Global,
+    board: &mut Board,
+    plain: &mut Vec<Listing>,
+    dice: &mut Dice,
+    call: Call,
+) -> Result<(), Memory> {
+    let one = some_pair(dice)?;
+    let other = some_pair(dice)?;
+    let listed = some_listed(dice, plain)?;
+    match call {
+        Call::Come => replace(alloc, board, plain, &[], &[one, other]),
+        Call::Replace => replace(alloc, board, plain, &[listed], &[one]),
+        Call::Go => replace(alloc, board, plain, &[one, listed], &[]),
+        _ => Ok(()),
+    }
 }
 
 /// Makes the call of both.
@@ -246,19 +271,17 @@ fn make(
     dice: &mut Dice,
     call: Call,
 ) -> Result<(), Memory> {
-    let any = some_pair(dice)?;
     let listed = some_listed(dice, plain)?;
-    let least = least(plain, true).unwrap_or(any);
+    let least = least(plain, true).unwrap_or(listed);
+    let found = some_found(dice)?;
     match call {
-        Call::Come => replace(alloc, board, plain, &[], &[any, some_pair(dice)?])?,
-        Call::Replace => replace(alloc, board, plain, &[listed], &[any])?,
-        Call::Go => replace(alloc, board, plain, &[any, listed], &[])?,
-        Call::Settle => settle(alloc, board, plain, least, some_found(dice)?)?,
-        Call::SettleAny => settle(alloc, board, plain, listed, some_found(dice)?)?,
-        Call::Mark => mark_keys(alloc, board, plain, [some_key(dice)?, some_key(dice)?])?,
-        Call::TakeOut => take_out(board, plain, least),
-        Call::TakeOutAny => take_out(board, plain, listed),
-        Call::PutBack => put_back(board, plain, listed),
+        Call::Settle => settle(alloc, board, plain, &least, &found)?,
+        Call::SettleAny => settle(alloc, board, plain, &listed, &found)?,
+        Call::Mark => mark(alloc, board, plain, dice)?,
+        Call::TakeOut => take_out(board, plain, &least),
+        Call::TakeOutAny => take_out(board, plain, &listed),
+        Call::PutBack => put_back(board, plain, &listed),
+        call => make_change(alloc, board, plain, dice, call)?,
     }
     Ok(())
 }
@@ -272,21 +295,21 @@ fn is_tally(
     tally: &Tally,
 ) -> Result<bool, Memory> {
     let (for_model, occurs) = *heading;
-    let mut failing = Vec::new(alloc);
-    let mut applicable = 0;
-    if for_model {
-        applicable = count(plain, spec, occurs, &mut failing)?;
+    if !for_model {
+        return Ok(tally.skipped && tally.applicable == 0 && tally.failing.as_slice().is_empty());
     }
+    let mut elems = Vec::new(alloc);
+    failing(plain, spec, occurs, &mut elems)?;
     let told = tally.failing.as_slice();
-    let is_same = told.len() == failing.len()
-        && told.iter().zip(&failing).all(|(told, (elem, unmet))| told.elem.get() == *elem
-            && told.requirements.as_slice() == *unmet);
-    Ok(
-        tally.skipped != for_model
-            && tally.occurs == occurs
-            && tally.applicable == applicable
-            && is_same,
-    )
+    for (failing, elem) in told.iter().zip(&elems) {
+        if failing.elem.get() != *elem {
+            return Ok(false);
+        }
+        if !is_unmet(plain, spec, *elem, failing.requirements.as_slice()) {
+            return Ok(false);
+        }
+    }
+    Ok(!tally.skipped && tally.applicable == applicable(plain, spec) && told.len() == elems.len())
 }
 
 /// Both say the same of each pair and each specification.
@@ -348,7 +371,7 @@ fn a_board_is_as_a_plain_list(rt: HostRuntime) -> Result<(), Fail> {
     let mut board = Board::new(alloc, &specs, &first)?;
     let mut plain = Vec::new(alloc);
     for pair in &first {
-        add(&mut plain, *pair)?;
+        add(&mut plain, pair)?;
     }
     let mut dice = Dice::new(20);
     let mut step: u32 = 0;

@@ -2,12 +2,21 @@ use audit_model::{Occurs, Pair, Verdict};
 use dirty_board::Row;
 use ifc_base::{Key, Memory};
 
-/// What is found of a pair: the requirements that aren't met, or none where the specification doesn't apply; and
-/// the keys that were looked at.
+/// What verdicts say: the requirements that aren't met, or nothing where the specification doesn't apply.
+pub const VERDICTS: [Option<&[u32]>; 5] = [
+    None,
+    Some(&[]),
+    Some(&[1]),
+    Some(&[2, 3]),
+    Some(&[1, 2, 3]),
+];
+
+/// What is found of a pair: the place of the verdict in the table, and the keys that were looked at.
 #[derive(Clone, Copy)]
 pub struct Found {
-    pub unmet: Option<&'static [u32]>,
-    pub needs: [Key; 2],
+    pub verdict: usize,
+    pub one: Key,
+    pub other: Key,
 }
 
 /// A pair that is listed, with what is kept of it.
@@ -18,48 +27,62 @@ pub struct Listing {
     pub out: bool,
 }
 
-/// Keeps what was found of the pair, or drops it, if the pair is listed.
-pub fn keep(plain: &mut [Listing], pair: Pair, found: Option<Found>) {
+/// What the verdict at this place of the table says.
+pub fn unmet(verdict: usize) -> Option<&'static [u32]> {
+    match VERDICTS.get(verdict) {
+        Some(unmet) => *unmet,
+        None => None,
+    }
+}
+
+/// Keeps what was found of the pair, if the pair is listed.
+pub fn keep(plain: &mut [Listing], pair: &Pair, found: &Found) {
     for listing in plain {
-        if listing.pair == pair {
-            listing.found = found;
+        if listing.pair == *pair {
+            listing.found = Some(*found);
         }
     }
 }
 
 /// Marks whether a claim of the pair is out, if the pair is listed.
-pub fn mark_out(plain: &mut [Listing], pair: Pair, out: bool) {
+pub fn mark_out(plain: &mut [Listing], pair: &Pair, out: bool) {
     for listing in plain {
-        if listing.pair == pair {
+        if listing.pair == *pair {
             listing.out = out;
         }
     }
 }
 
+/// Whether what is kept needs the key.
+fn needs(found: &Option<Found>, key: &Key) -> bool {
+    match found {
+        None => false,
+        Some(found) => found.one == *key || found.other == *key,
+    }
+}
+
 /// Drops all that needs the key.
-pub fn change(plain: &mut [Listing], key: Key) {
+pub fn drop_needing(plain: &mut [Listing], key: &Key) {
     for listing in plain {
-        if let Some(found) = listing.found {
-            if found.needs.contains(&key) {
-                listing.found = None;
-            }
+        if needs(&listing.found, key) {
+            listing.found = None;
         }
     }
 }
 
 /// Takes the pair out of the list.
-pub fn remove(plain: &mut Vec<Listing>, pair: Pair) {
-    plain.retain(|listing| listing.pair != pair);
+pub fn remove(plain: &mut Vec<Listing>, pair: &Pair) {
+    plain.retain(|listing| listing.pair != *pair);
 }
 
 /// Adds a pair that isn't listed, in its place.
-pub fn add(plain: &mut Vec<Listing>, pair: Pair) -> Result<(), Memory> {
+pub fn add(plain: &mut Vec<Listing>, pair: &Pair) -> Result<(), Memory> {
     plain.push(Listing {
-        pair,
+        pair: *pair,
         found: None,
         out: false,
     })?;
-    match plain.sort_by_key(|listing| (listing.pair.spec, listing.pair.elem)) {
+    match plain.sort_by_key(|listing| (listing.pair.spec, listing.pair.elem.get())) {
         Ok(()) => Ok(()),
         Err(_) => Err(Memory),
     }
@@ -75,9 +98,9 @@ pub fn least(plain: &[Listing], claimable: bool) -> Option<Pair> {
     None
 }
 
-/// Whether the verdict says what was found.
-fn says(verdict: &Verdict, found: &Found) -> bool {
-    match (verdict, found.unmet) {
+/// Whether the verdict is that at this place of the table.
+fn says(verdict: &Verdict, place: usize) -> bool {
+    match (verdict, unmet(place)) {
         (Verdict::NotApplicable, None) => true,
         (Verdict::Applicable(numbers), Some(unmet)) => numbers.as_slice() == unmet,
         _ => false,
@@ -88,36 +111,60 @@ fn says(verdict: &Verdict, found: &Found) -> bool {
 pub fn is_kept(verdict: Option<&Verdict>, found: &Option<Found>) -> bool {
     match (verdict, found) {
         (None, None) => true,
-        (Some(verdict), Some(found)) => says(verdict, found),
+        (Some(verdict), Some(found)) => says(verdict, found.verdict),
         _ => false,
     }
 }
 
-/// Whether the row is the listing.
+/// Whether the row is of the same pair, and out or not as that one.
 pub fn is_row(row: &Row, listing: &Listing) -> bool {
     row.pair == listing.pair && row.out == listing.out
 }
 
-/// The elements of the specification that fail, with the requirements that they don't meet, in order; and how many
-/// it applies to.
-pub fn count(
+/// What is said of the listing, if it is one of the specification and that applies.
+fn said(listing: &Listing, spec: u32) -> Option<&'static [u32]> {
+    match &listing.found {
+        Some(found) if listing.pair.spec == spec => unmet(found.verdict),
+        _ => None,
+    }
+}
+
+/// How many elements the specification applies to.
+pub fn applicable(plain: &[Listing], spec: u32) -> u32 {
+    let mut count: u32 = 0;
+    for listing in plain {
+        if said(listing, spec).is_some() {
+            count = count.saturating_add(1);
+        }
+    }
+    count
+}
+
+/// The elements of the specification that fail, in order.
+pub fn failing(
     plain: &[Listing],
     spec: u32,
     occurs: Occurs,
-    failing: &mut Vec<(u32, &'static [u32])>,
-) -> Result<u32, Memory> {
-    let mut applicable: u32 = 0;
+    elems: &mut Vec<u32>,
+) -> Result<(), Memory> {
     for listing in plain {
-        let Some(unmet) = listing.found.and_then(|found| found.unmet) else {
-            continue;
-        };
-        if listing.pair.spec != spec {
-            continue;
-        }
-        applicable = applicable.saturating_add(1);
-        if occurs == Occurs::Prohibited || !unmet.is_empty() {
-            failing.push((listing.pair.elem.get(), unmet))?;
+        if let Some(unmet) = said(listing, spec) {
+            if occurs == Occurs::Prohibited || !unmet.is_empty() {
+                elems.push(listing.pair.elem.get())?;
+            }
         }
     }
-    Ok(applicable)
+    Ok(())
+}
+
+/// Whether these are the requirements that the element doesn't meet.
+pub fn is_unmet(plain: &[Listing], spec: u32, elem: u32, requirements: &[u32]) -> bool {
+    for listing in plain {
+        if listing.pair.elem.get() == elem {
+            if let Some(unmet) = said(listing, spec) {
+                return unmet == requirements;
+            }
+        }
+    }
+    false
 }

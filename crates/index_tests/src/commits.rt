@@ -4,7 +4,7 @@ ghost use Rattle.ifc_base.specs.Ids.{HasDistinctIds};
 use crate::dice::Dice;
 use crate::edits::{accepted, edit, instance, schema};
 use crate::plain::{
-    Change, ENTITIES, IDS, RELATIONS, Thing, VALUES, all_ids, all_keys, at, attributes, change,
+    Change, ENTITIES, IDS, RELATIONS, Thing, VALUES, all_ids, all_keys, apply, at, attributes,
     changed_keys, holders, referrers,
 };
 use ifc_base::{InstId, Instances, Key, Keys, Memory};
@@ -36,10 +36,10 @@ enum Kind {
 type Phase = (u32, u32, &'static [Kind]);
 
 const PHASES: [Phase; 4] = [
-    (100, 1, &[Kind::Add, Kind::Set, Kind::Remove]),
-    (100, 1, &[Kind::Renew, Kind::Visit, Kind::Replace]),
+    (60, 1, &[Kind::Add, Kind::Set, Kind::Remove]),
+    (60, 1, &[Kind::Renew, Kind::Visit, Kind::Replace]),
     (
-        100,
+        60,
         3,
         &[
             Kind::Add,
@@ -52,7 +52,7 @@ const PHASES: [Phase; 4] = [
         ],
     ),
     (
-        100,
+        60,
         6,
         &[
             Kind::Add,
@@ -174,8 +174,8 @@ fn commit(
 /// The model with those of the changes done that can be.
 fn changed(alloc: Global, model: &[Thing], changes: &[Change]) -> Result<Vec<Thing>, Memory> {
     let mut next = model.to_vec(alloc)?;
-    for one in changes {
-        change(alloc, &mut next, *one)?;
+    for change in changes {
+        apply(alloc, &mut next, *change)?;
     }
     Ok(next)
 }
@@ -286,7 +286,7 @@ fn snapshots_are_as_they_are_defined(rt: HostRuntime) -> Result<(), Fail> {
             log = next_log;
         }
     }
-    assert_eq!(rt; snapshot.revision(), 400);
+    assert_eq!(rt; snapshot.revision(), 240);
     agree(&rt, alloc, &first_snapshot, &first_model)?;
     Ok(())
 }

@@ -60,32 +60,21 @@ pub const ENTITIES: [Entity; 13] = [
     ("HALVES", "IFCRELAGGREGATES", &["Mark"]),
 ];
 
-/// A role, its relationship entity, and the attribute that holds what is related (ISO 16739-1).
-pub type Relation = (Role, &'static str, &'static str);
+/// A role, the places in the table of its relationship entity and the subtypes of that, and the place among their
+/// attributes of the one that holds what is related (ISO 16739-1).
+pub type Relation = (Role, &'static [usize], usize);
 
 pub const RELATIONS: [Relation; 10] = [
-    (
-        Role::Properties,
-        "IFCRELDEFINESBYPROPERTIES",
-        "RelatedObjects",
-    ),
-    (Role::Kind, "IFCRELDEFINESBYTYPE", "RelatedObjects"),
-    (
-        Role::Classification,
-        "IFCRELASSOCIATESCLASSIFICATION",
-        "RelatedObjects",
-    ),
-    (Role::Material, "IFCRELASSOCIATESMATERIAL", "RelatedObjects"),
-    (Role::Aggregates, "IFCRELAGGREGATES", "RelatedObjects"),
-    (Role::Nests, "IFCRELNESTS", "RelatedObjects"),
-    (
-        Role::Contained,
-        "IFCRELCONTAINEDINSPATIALSTRUCTURE",
-        "RelatedElements",
-    ),
-    (Role::Group, "IFCRELASSIGNSTOGROUP", "RelatedObjects"),
-    (Role::Voids, "IFCRELVOIDSELEMENT", "RelatedOpeningElement"),
-    (Role::Fills, "IFCRELFILLSELEMENT", "RelatedBuildingElement"),
+    (Role::Properties, &[2], 0),
+    (Role::Kind, &[3], 0),
+    (Role::Classification, &[4], 0),
+    (Role::Material, &[5], 0),
+    (Role::Aggregates, &[6, 12], 1),
+    (Role::Nests, &[7], 1),
+    (Role::Contained, &[8], 0),
+    (Role::Group, &[9], 0),
+    (Role::Voids, &[10], 1),
+    (Role::Fills, &[11], 1),
 ];
 
 /// How many ids there are, from 1.
@@ -162,14 +151,6 @@ fn place_of(alloc: Global, entity: usize, attr: &str) -> Result<Option<usize>, M
     Ok(names.iter().position(|name| *name == attr))
 }
 
-/// Whether the entity at this place is that of the name or a subtype of it.
-fn is_kind(entity: usize, kind: &str) -> bool {
-    match ENTITIES.get(entity) {
-        Some((name, parent, _)) => *name == kind || *parent == kind,
-        None => false,
-    }
-}
-
 /// The numbers to which the value at this place of the table refers.
 fn references(value: usize) -> &'static [u32] {
     match VALUES.get(value) {
@@ -184,16 +165,10 @@ pub fn at(model: &[Thing], id: InstId) -> Option<Thing> {
 }
 
 /// Whether the thing refers to the id by the role of this relation.
-fn refers(alloc: Global, thing: &Thing, relation: &Relation, id: InstId) -> Result<bool, Memory> {
-    let (_, entity, related) = *relation;
-    if !is_kind(thing.entity, entity) {
-        return Ok(false);
-    }
-    let Some(place) = place_of(alloc, thing.entity, related)? else {
-        return Ok(false);
-    };
+fn refers(thing: &Thing, relation: &Relation, id: InstId) -> bool {
+    let (_, entities, place) = *relation;
     let value = thing.values.get(place).copied().unwrap_or(0);
-    Ok(references(value).contains(&id.get()))
+    entities.contains(&thing.entity) && references(value).contains(&id.get())
 }
 
 /// The ids of the instances that refer to the id by the role of this relation, in the order of the model.
@@ -205,7 +180,7 @@ pub fn referrers(
 ) -> Result<Vec<InstId>, Memory> {
     let mut ids = Vec::new(alloc);
     for thing in model {
-        if refers(alloc, thing, relation, id)? {
+        if refers(thing, relation, id) {
             ids.push(thing.id)?;
         }
     }
@@ -277,7 +252,7 @@ fn set(alloc: Global, thing: &mut Thing, attr: &str, value: usize) -> Result<(),
 }
 
 /// Does the edit, if it can be done.
-pub fn change(alloc: Global, model: &mut Vec<Thing>, change: Change) -> Result<(), Memory> {
+pub fn apply(alloc: Global, model: &mut Vec<Thing>, change: Change) -> Result<(), Memory> {
     match change {
         Change::Add(thing) => {
             if at(model, thing.id).is_none() {

@@ -1,4 +1,6 @@
 ghost use Rattle.std.specs.Prelude.{◌≡◌, ◌<◌, ◌≤◌, true, IfOk};
+ghost use Rattle.std.specs.List.{list_any};
+ghost use Rattle.audit_model.specs.Pairs.{same_pair};
 ghost use Rattle.audit_model.specs.Laws.{ArePairsAscending};
 ghost use Rattle.dirty_board.specs.Needing.{is_among};
 ghost use Rattle.dirty_board.specs.Rooms.{pairs_of, AreNew};
@@ -198,12 +200,18 @@ fn put_back(board: &mut Board, plain: &mut [Listing], pair: &Pair) {
     mark_out(plain, pair, false);
 }
 
-/// Whether the pair has a row.
-#[tactic(auto, using(crate::proofs::Listing::listed))]
+/// Whether some row is the pair's.
+fn has_row(rows: &[Row], pair: &Pair) -> bool
+    ensures { result ≡ list_any (λ row. same_pair row.pair pair.now) rows.now }
+{
+    rows.iter().any(|row| row.pair.spec == pair.spec && row.pair.elem == pair.elem)
+}
+
+/// Whether the pair is listed.
 fn is_listed(rows: &[Row], pair: &Pair) -> bool
     ensures { result ≡ is_among (pairs_of rows.now) pair.now }
 {
-    rows.iter().any(|row| row.pair.spec == pair.spec && row.pair.elem == pair.elem)
+    has_row(rows, pair)
 }
 
 /// Whether these are at most two pairs, distinct and not listed.

@@ -103,6 +103,16 @@ fn number_node(number: Number) -> ValueNode
     }
 }
 
+/// The series of these values, whose list takes no more memory than they need. `O(n)`.
+fn exact<'a>(values: Vec<Value>, late: Option<&'a [u8]>) -> Series<'a>
+    ensures values { result.values.items ≡ values.items }
+    ensures late { place result.late ≡ place late.entry }
+{
+    let mut kept = values;
+    kept.shrink_to_fit();
+    Series { values: kept, late }
+}
+
 /// The value that begins with the token, in which parentheses nest no deeper than `depth`.
 #[tactic(auto, using(crate::proofs::Depths::steps))]
 #[cycle(read)]
@@ -167,7 +177,7 @@ pub(crate) fn read_series<'a>(
     for _ in 0..cursor.turns() {
         let next = next_token(alloc, cursor)?;
         match next.token {
-            Token::Close => return Ok(Series { values, late }),
+            Token::Close => return Ok(exact(values, late)),
             Token::Comma => {}
             other => return Err(misplaced(Some(at), &other, next.at)),
         }

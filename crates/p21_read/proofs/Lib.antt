@@ -6,6 +6,7 @@ pub mod CodeLaws
 pub mod StringLaws
 pub mod RunLaws
 pub mod TokenLaws
+pub mod Letters
 pub mod ValueLaws
 pub mod ValueComplete
 pub mod InstanceLaws

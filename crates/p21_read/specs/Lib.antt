@@ -5,6 +5,7 @@ pub mod Numbers
 pub mod Tokens
 pub mod Values
 pub mod Instances
+pub mod Letters
 pub mod Readings
 pub mod Headers
 pub mod Known

@@ -12,6 +12,7 @@ mod laws;
 mod number;
 mod quoted;
 mod read;
+mod run;
 mod section;
 mod token;
 mod value;

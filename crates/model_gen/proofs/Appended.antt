@@ -40,7 +40,7 @@ pub relationship_appended : (n k : ℕ) (old w1 w2 w3 w4 w5 w6 w7 w8 w9 : List �
     → w9 ≡ old ++ relationship_line n
 relationship_appended n k old w1 w2 w3 w4 w5 w6 w7 w8 w9 same e1 e2 e3 e4 e5 e6 e7 e8 e9 =
     let seven = seven_appended old w1 w2 w3 w4 w5 w6 w7 (codes "#") (decimal (10 * k + 3)) (codes "=IFCRELDEFINESBYPROPERTIES('") (decimal k) (codes "',$,$,$,(#") (decimal (10 * k)) (codes "),#")
-        e1 e2 e3 e4 e5 e6 e7 in
+    e1 e2 e3 e4 e5 e6 e7 in
     then_appended old w8 w9 _ (codes ");\n") (then_appended old w7 w8 _ (decimal (10 * k + 2)) seven e8) e9
     ∙ ap (λ j. old ++ relationship_line j) same
 

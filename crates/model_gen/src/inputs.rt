@@ -1,4 +1,4 @@
-ghost use Rattle.std.specs.Prelude.{◌≡◌, ◌≤◌, ◌++◌, IfOk, OnOk};
+ghost use Rattle.std.specs.Prelude.{◌≡◌, ◌≤◌, IfOk};
 ghost use Rattle.model_gen.specs.Fixed.{declarations, specifications, script};
 ghost use Rattle.model_gen.specs.Made.{made_inputs, model};
 

@@ -68,7 +68,8 @@ END_SCHEMA;
 ";
 
 /// The specifications: one, that every wall has a fire rating of REI60.
-pub(crate) const SPECIFICATIONS: &str = "{\"specifications\":[{\"name\":\"walls\",\"ifcVersion\":[\"IFC4\"],
+pub(crate) const SPECIFICATIONS: &str =
+    "{\"specifications\":[{\"name\":\"walls\",\"ifcVersion\":[\"IFC4\"],
 \"applicability\":{\"minOccurs\":\"0\",\"maxOccurs\":\"unbounded\",\"facets\":[{\"facet\":\"entity\",\"name\":{\"simpleValue\":\"IFCWALL\"}}]},
 \"requirements\":[{\"facet\":\"property\",\"dataType\":\"IFCLABEL\",\"propertySet\":{\"simpleValue\":\"Pset_WallCommon\"},\"baseName\":{\"simpleValue\":\"FireRating\"},\"value\":{\"simpleValue\":\"REI60\"}}]}]}
 ";

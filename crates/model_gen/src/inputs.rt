@@ -24,12 +24,12 @@ pub struct Inputs {
     pub script: Bytes,
 }
 
-/// The inputs that are made from this number with so many walls, from 1 to `MOST_WALLS`: the same ones for
-/// each call, and those of `made_inputs`. A wall has four instances of the ids `10 * k` to `10 * k + 3`,
-/// where `k` is its number from 1; one in 500 has a fire rating that the specification doesn't admit, and
-/// the number says which. The only refusal is want of memory.
+/// The inputs that are made from this number with so many walls, from 1 to `MOST_WALLS`. The number and
+/// the count come into the model alone: wall `k`, from 1, has four instances of the ids `10 * k` to
+/// `10 * k + 3`, and one wall in 500 has a fire rating that the specification doesn't admit; the number
+/// says which. The only refusal is want of memory.
 ///
-/// `O(n)` time and memory for n walls: some 220 bytes a wall, in a buffer that grows.
+/// `O(n)` time and memory for n walls: some 250 bytes a wall, in a buffer that grows.
 pub fn generate(alloc: Global, number: u64, count: u32) -> Result<Inputs, Memory>
     requires least { 1 ≤ count }
     requires most { count ≤ MOST_WALLS }

@@ -1,0 +1,10 @@
+use Rattle.std.proofs.lemmas.Result.{on_ok_weaker}
+use Rattle.model_gen.proofs.Appended.{relationship_appended}
+use Rattle.model_gen.proofs.walls.push_relationship_line.Goals as goal
+
+pub returns : goal.returns
+returns c =
+    on_ok_weaker c.push_text-5.result
+    (λ last. relationship_appended c.args.wall _ _ _ _ _ _ _ _ _ _ _ c.from-wall.ensures c.in_ok-push_text.ensures c.in_ok-push_decimal.ensures.ok c.in_ok-push_text-2.ensures
+    c.in_ok-push_decimal-2.ensures.ok c.in_ok-push_text-3.ensures c.in_ok-push_decimal-3.ensures.ok c.in_ok-push_text-4.ensures c.in_ok-push_decimal-4.ensures.ok last)
+    c.push_text-5.ensures

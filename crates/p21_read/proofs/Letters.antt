@@ -52,19 +52,27 @@ small l.Numeral c is = grind (arith, nat_tests)
 small l.Word c is = grind (arith, nat_tests)
 small l.Plain c is = grind (arith, nat_tests)
 
--- What is known of the bytes that a run took, where `left` are the bytes behind it.
-pub record Taken (letters : Letters) (bytes left : List ℕ) : Type 0 where
-  pub run : run (of letters) (codes_of bytes) ≡ (take (length bytes - length left) bytes, codes_of left)
-  pub ascii : IsAscii (take (length bytes - length left) bytes)
+-- What is known of the n bytes that a run took, where `left` is still to read.
+pub record Taken (letters : Letters) (bytes : List ℕ) (t left : Text) (n : ℕ) : Type 0 where
+  pub whole : run (of letters) t ≡ (take n bytes, left)
+  pub ascii : IsAscii (take n bytes)
 
-pub taken : (letters : Letters) (bytes left : List ℕ) → codes_of left ≡ (run (of letters) (codes_of bytes)).1 → Taken letters bytes left
-taken letters bytes left e =
+taken : (letters : Letters) (bytes behind : List ℕ) (n : ℕ) → codes_of behind ≡ (run (of letters) (codes_of bytes)).1 → n ≡ length bytes - length behind
+    → Taken letters bytes (codes_of bytes) (codes_of behind) n
+taken letters bytes behind n e is =
     let r = run (of letters) (codes_of bytes) in
     let cut = cut_is (of letters) (small letters) bytes in
-    let size : size_of r.1 ≡ length left = ap size_of (sym e) ∙ size_codes left in
-    let n : length r.0 ≡ length bytes - length left = omega (arith, cut.1, size) in
-    let front : take (length bytes - length left) bytes ≡ r.0 = ap (λ (m : ℕ). take m bytes) (sym n) ∙ cut.0 in
+    let size : size_of r.1 ≡ length behind = ap size_of (sym e) ∙ size_codes behind in
+    let same : length r.0 ≡ n = omega (arith, cut.1, size, is) in
+    let front : take n bytes ≡ r.0 = ap (λ (m : ℕ). take m bytes) (sym same) ∙ cut.0 in
     record {
-      run = ap (λ (xs : List ℕ). (xs, r.1)) (sym front) ∙ ap (λ (u : Text). (take (length bytes - length left) bytes, u)) (sym e);
+      whole = ap (λ (xs : List ℕ). (xs, r.1)) (sym front) ∙ ap (λ (u : Text). (take n bytes, u)) (sym e);
       ascii = subst (λ (xs : List ℕ). IsAscii xs) (sym front) (ascii_at (of letters) (small letters) r.0 (run_is (of letters) (codes_of bytes)).all);
     }
+
+-- the same, where bytes say t before the run and `left` behind it
+pub taken_by : (letters : Letters) (bytes behind : List ℕ) (t left : Text) (n : ℕ) → codes_of bytes ≡ t → codes_of behind ≡ left → left ≡ (run (of letters) t).1
+    → n ≡ length bytes - length behind → Taken letters bytes t left n
+taken_by letters bytes behind t left n says more e is =
+    let passed : codes_of behind ≡ (run (of letters) (codes_of bytes)).1 = more ∙ e ∙ ap (λ (u : Text). (run (of letters) u).1) (sym says) in
+    subst (λ (u : Text). Taken letters bytes u left n) says (subst (λ (u : Text). Taken letters bytes (codes_of bytes) u n) more (taken letters bytes behind n passed is))

@@ -16,7 +16,7 @@ unreachable-requires c =
 pub returns-clause-run : goal.returns-clause-run
 returns-clause-run c =
     let t = taken_by c.args.letters c.rest-start.result.now c.rest.result.now c.args.cursor.now c.pass_run.new.self c.saturating_sub.result c.rest-start.ensures c.rest.ensures c.pass_run.ensures c.saturating_sub.ensures in
-    t.run ∙ ap (λ (s : List ℕ). (s, c.pass_run.new.self)) (sym (c.in-Ok.ensures.cases).0)
+    t.whole ∙ ap (λ (s : List ℕ). (s, c.pass_run.new.self)) (sym (c.in-Ok.ensures.cases).0)
 
 pub returns-clause-ascii : goal.returns-clause-ascii
 returns-clause-ascii c =

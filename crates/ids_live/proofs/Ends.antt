@@ -1,6 +1,6 @@
 -- The ends of a run.
-use Rattle.std.proofs.Common.{◌≡◌, ℕ, ◌+◌, reverse, List, [], ◌∷◌, ◌++◌, length, take, Bool, true, false, ◌||◌, ◌==◌, Option, Result, Ok, Err, inl, refl, ap, sym, subst, ◌∙◌, arith}
-use Rattle.std.specs.Prelude.{⊤, ◌<◌, ◌≤◌, if◌then◌else◌, Some, None, IfSome, IfOk, MatchOption}
+use Rattle.std.proofs.Common.{◌≡◌, ℕ, ◌+◌, reverse, List, [], ◌∷◌, ◌++◌, length, take, Bool, true, false, ◌||◌, ◌==◌, Option, Result, Ok, Err, inl, inr, refl, ap, sym, subst, ◌∙◌, arith}
+use Rattle.std.specs.Prelude.{⊤, ◌⊎◌, ◌<◌, ◌≤◌, if◌then◌else◌, Some, None, IfSome, IfOk, MatchOption}
 use Rattle.std.specs.Bool.{OnTrue}
 use Rattle.std.proofs.lemmas.Bool.{eqb-true}
 use Rattle.std.proofs.lemmas.List.{append-nil, reverse-reverse}
@@ -17,17 +17,20 @@ use Rattle.script_rules.specs.Phased.{ArePhases, HasNoWorkers}
 use Rattle.script_rules.specs.RunLaws.{IsLater}
 use Rattle.script_rules.specs.Serial.{script_history, serial as history_of, meets_full as is_filled}
 use Rattle.script_rules.specs.Stopped.{AreStopped, returned, FullIsLong}
-use Rattle.serial_run.specs.declared.run.End.{End}
-use Rattle.serial_run.specs.declared.run.End.TheVariants as ending
-use Rattle.serial_run.specs.declared.run.Ran.{Ran}
-use Rattle.serial_run.specs.Runs.{ends_pass, IsWhole, IsUnwritten, IsFull, IsLeft, IsEndedBy, IsFinished, IsRan, IsWritten}
+use Rattle.listeners.specs.Hearing.{Hearer, Report}
+use Rattle.listeners.specs.Passing.{ends_pass}
+use Rattle.ids_live.specs.declared.script_run.End.{End}
+use Rattle.ids_live.specs.declared.script_run.End.TheVariants as ending
+use Rattle.ids_live.specs.declared.script_run.Ran.{Ran}
+use Rattle.ids_live.specs.Listening.{AreToldAll, AreToldInPart, reports_of}
+use Rattle.ids_live.specs.ScriptEnds.{IsWhole, IsUnwritten, IsFull, IsLeft, IsEndedBy, IsFinished, IsRan, IsWritten}
 use Rattle.ids_live.specs.declared.ending.Ended.{Ended}
 use Rattle.ids_live.specs.declared.refused.Input.{Input}
 use Rattle.ids_live.specs.declared.refused.Input.TheVariants as input
 use Rattle.ids_live.specs.declared.refused.Refused.{Refused}
 use Rattle.ids_live.specs.Fitness.{IsFit}
 use Rattle.ids_live.specs.Lines.{refused_line}
-use Rattle.ids_live.specs.Steps.{serial, meets_full, output, status_at}
+use Rattle.ids_live.specs.Steps.{serial, meets_full, output, reports_in, status_at}
 use Rattle.command_line.specs.Words.{Command}
 use Rattle.ids_live.specs.Forms.{Loaded, loaded_of, limits}
 use Rattle.ids_live.specs.Inputs.{Inputs}
@@ -50,8 +53,8 @@ stopped_none (Ok l) journal none = rw none (none_begun l.phases) where
   none_begun [] = refl
   none_begun (p ∷ ps) = inl refl
 
-pub early_end : (read : Result Loaded Refused) (old new : Option (List ℕ)) (e : Ended) → e.journal ≡ [] → e.status ≡ 5 → new ≡ old → IsEndOf read old new e
-early_end read old new e none status same = record {
+pub early_end : (read : Result Loaded Refused) (old new : Option (List ℕ)) (were are : List Hearer) (e : Ended) → e.journal ≡ [] → e.status ≡ 5 → (new ≡ old) × (are ≡ were) → IsEndOf read old new were are e
+early_end read old new were are e none status same = record {
   all_read = rw status tt;
   room = rw status tt;
   history = rw status tt;
@@ -61,6 +64,7 @@ early_end read old new e none status same = record {
   none_out = rw (status, none) refl;
   legal = rw status (legal_none read e.journal none);
   text = rw status tt;
+  told = rw status tt;
   verdict = rw status tt;
   full = rw status tt;
   long = rw status tt;
@@ -69,8 +73,8 @@ early_end read old new e none status same = record {
   memory = rw (status, none) same;
 }
 
-pub shelf_end : (read : Result Loaded Refused) (old new : Option (List ℕ)) (e : Ended) → e.status ≡ 3 → IsEndOf read old new e
-shelf_end read old new e status = record {
+pub shelf_end : (read : Result Loaded Refused) (old new : Option (List ℕ)) (were are : List Hearer) (e : Ended) → e.status ≡ 3 → IsEndOf read old new were are e
+shelf_end read old new were are e status = record {
   all_read = rw status tt;
   room = rw status tt;
   history = rw status tt;
@@ -80,6 +84,7 @@ shelf_end read old new e status = record {
   none_out = rw status tt;
   legal = rw status tt;
   text = rw status tt;
+  told = rw status tt;
   verdict = rw status tt;
   full = rw status tt;
   long = rw status tt;
@@ -89,8 +94,8 @@ shelf_end read old new e status = record {
 }
 
 -- the line of a refused input was written
-pub refused_end : (refused : Refused) (old new : Option (List ℕ)) (e : Ended) → e.journal ≡ [] → Appended old new (refused_line refused) → e.status ≡ 2 → IsEndOf (Err refused) old new e
-refused_end refused old new e none written status = record {
+pub refused_end : (refused : Refused) (old new : Option (List ℕ)) (were are : List Hearer) (e : Ended) → e.journal ≡ [] → Appended old new (refused_line refused) → are ≡ were → e.status ≡ 2 → IsEndOf (Err refused) old new were are e
+refused_end refused old new were are e none written same status = record {
   all_read = rw status tt;
   room = rw status tt;
   history = rw status tt;
@@ -100,17 +105,18 @@ refused_end refused old new e none written status = record {
   none_out = rw status tt;
   legal = rw status tt;
   text = rw status tt;
+  told = rw status tt;
   verdict = rw status tt;
   full = rw status tt;
   long = rw status tt;
-  refusal = rw status (none, written);
+  refusal = rw status (none, written, same);
   sink = rw status tt;
   memory = rw status tt;
 }
 
 -- or a front of it
-pub refused_cut : (refused : Refused) (old new : Option (List ℕ)) (e : Ended) (n : ℕ) → e.journal ≡ [] → n < length (refused_line refused) → Appended old new (take n (refused_line refused)) → e.status ≡ 4 → IsEndOf (Err refused) old new e
-refused_cut refused old new e n none short written status = record {
+pub refused_cut : (refused : Refused) (old new : Option (List ℕ)) (were are : List Hearer) (e : Ended) (n : ℕ) → e.journal ≡ [] → n < length (refused_line refused) → Appended old new (take n (refused_line refused)) → are ≡ were → e.status ≡ 4 → IsEndOf (Err refused) old new were are e
+refused_cut refused old new were are e n none short written same status = record {
   all_read = rw status tt;
   room = rw status tt;
   history = rw status tt;
@@ -120,39 +126,40 @@ refused_cut refused old new e n none short written status = record {
   none_out = rw (status, none) refl;
   legal = rw status tt;
   text = rw status tt;
+  told = rw status tt;
   verdict = rw status tt;
   full = rw status tt;
   long = rw status tt;
   refusal = rw status tt;
-  sink = rw status (none, (n, short, written));
+  sink = rw status (none, (n, short, written), same);
   memory = rw status tt;
 }
 
 -- a run that ended while the inputs were read, for want of memory
-pub early_run : (command : Command) (held : Option Files) (before after : List Read) (old new : Option (List ℕ)) (e : Ended) → e.journal ≡ [] → e.status ≡ 5 → new ≡ old → CameTo IsPart command before after
-    → (i : Inputs) × IsRun held before after command old new e i
-early_run command held before after old new e none five same part = (
+pub early_run : (command : Command) (held : Option Files) (before after : List Read) (old new : Option (List ℕ)) (were are : List Hearer) (e : Ended) → e.journal ≡ [] → e.status ≡ 5 → (new ≡ old) × (are ≡ were) → CameTo IsPart command before after
+    → (i : Inputs) × IsRun held before after command old new were are e i
+early_run command held before after old new were are e none five same part = (
   no_inputs,
   record {
     inputs = rw five tt;
     inputs_in_steps = rw (five, none) tt;
     cut = rw five tt;
     part = rw five part;
-    ends = early_end (loaded_of no_inputs) old new e none five same;
+    ends = early_end (loaded_of no_inputs) old new were are e none five same;
   },
 )
 
 -- or for a fault of the shelf
-pub shelf_run : (command : Command) (held : Option Files) (before after : List Read) (old new : Option (List ℕ)) (e : Ended) (at : Input) → e.status ≡ 3 → e.failed ≡ Some at → CameAt IsCut command before after at
-    → (i : Inputs) × IsRun held before after command old new e i
-shelf_run command held before after old new e at three failed cut = (
+pub shelf_run : (command : Command) (held : Option Files) (before after : List Read) (old new : Option (List ℕ)) (were are : List Hearer) (e : Ended) (at : Input) → e.status ≡ 3 → e.failed ≡ Some at → CameAt IsCut command before after at
+    → (i : Inputs) × IsRun held before after command old new were are e i
+shelf_run command held before after old new were are e at three failed cut = (
   no_inputs,
   record {
     inputs = rw three tt;
     inputs_in_steps = rw three tt;
     cut = rw (three, failed) cut;
     part = rw three tt;
-    ends = shelf_end (loaded_of no_inputs) old new e three;
+    ends = shelf_end (loaded_of no_inputs) old new were are e three;
   },
 )
 
@@ -165,11 +172,11 @@ pub is_taken : {o : Option Command} (command : Command) (P : Type 0) → o ≡ S
 is_taken command P is none = absurd (let bad : Some command ≡ None = rw is at none in cc)
 
 -- memory was wanting before the words were read
-pub unread_run : (o : Option Command) (held : Option Files) (before : List Read) (old : Option (List ℕ)) (e : Ended) → e.journal ≡ [] → e.status ≡ 5
-    → IfSome o (λ command. (i : Inputs) × IsRun held before before command old old e i)
-unread_run None held before old e none five = tt
-unread_run (Some command) held before old e none five =
-    early_run command held before before old old e none five refl (no_inputs, input.Schema, record { reached = tt; log = before; before = refl; there = inl ([], ([], refl, refl)) })
+pub unread_run : (o : Option Command) (held : Option Files) (before : List Read) (old : Option (List ℕ)) (were : List Hearer) (e : Ended) → e.journal ≡ [] → e.status ≡ 5
+    → IfSome o (λ command. (i : Inputs) × IsRun held before before command old old were were e i)
+unread_run None held before old were e none five = tt
+unread_run (Some command) held before old were e none five =
+    early_run command held before before old old were were e none five (refl, refl) (no_inputs, input.Schema, record { reached = tt; log = before; before = refl; there = inl ([], ([], refl, refl)) })
 
 -- The status of a run whose inputs were read isn't 3.
 
@@ -213,17 +220,17 @@ at_some statuses s P h = given (is_among statuses s) where
   given false = tt
 
 -- a run whose inputs were read
-pub read_run : (command : Command) (held : Option Files) (before after : List Read) (old new : Option (List ℕ)) (e : Ended) (loading : Result Loaded Refused)
-    → (i : Inputs) × AreInputs held before after command i × (loaded_of i ≡ loading) → is_among (0 ∷ 1 ∷ 2 ∷ 4 ∷ 5 ∷ 7 ∷ []) e.status ≡ true → IsEndOf loading old new e
-    → (i : Inputs) × IsRun held before after command old new e i
-read_run command held before after old new e loading (i, inputs, loads) among ends = (
+pub read_run : (command : Command) (held : Option Files) (before after : List Read) (old new : Option (List ℕ)) (were are : List Hearer) (e : Ended) (loading : Result Loaded Refused)
+    → (i : Inputs) × AreInputs held before after command i × (loaded_of i ≡ loading) → is_among (0 ∷ 1 ∷ 2 ∷ 4 ∷ 5 ∷ 7 ∷ []) e.status ≡ true → IsEndOf loading old new were are e
+    → (i : Inputs) × IsRun held before after command old new were are e i
+read_run command held before after old new were are e loading (i, inputs, loads) among ends = (
   i,
   record {
     inputs = at_some (0 ∷ 1 ∷ 2 ∷ 4 ∷ 7 ∷ []) e.status (AreInputs held before after command i) inputs;
     inputs_in_steps = at_some (5 ∷ []) e.status (IfSteps e.journal ⊤ (AreInputs held before after command i)) (in_steps e.journal (AreInputs held before after command i) inputs);
     cut = not_3 (MatchOption e.failed ⊥ (CameAt IsCut command before after)) e.status among;
     part = at_some (5 ∷ []) e.status (CameTo IsPart command before after) (read_part command before after i inputs.1);
-    ends = subst (λ (r : Result Loaded Refused). IsEndOf r old new e) (sym loads) ends;
+    ends = subst (λ (r : Result Loaded Refused). IsEndOf r old new were are e) (sym loads) ends;
   },
 )
 
@@ -236,26 +243,27 @@ at_true true P is h = h
 at_true false P is h = absurd (let no : false ≡ true = is in cc)
 
 -- a run that has come past its inputs
-pub past_run : (command : Command) (held : Option Files) (before after : List Read) (old new : Option (List ℕ)) (sure : ℕ → Type 0) (e : Ended)
-    → (i : Inputs) × AreInputs held before after command i × IsPast old new sure (loaded_of i) e → is_among (0 ∷ 1 ∷ 2 ∷ 4 ∷ 5 ∷ 7 ∷ []) e.status ≡ true
-    → (i : Inputs) × IsRun held before after command old new e i
-past_run command held before after old new sure e (i, inputs, past) among = read_run command held before after old new e (loaded_of i) (i, inputs, refl) among past.ends
+pub past_run : (command : Command) (held : Option Files) (before after : List Read) (old new : Option (List ℕ)) (were are : List Hearer) (sure : ℕ → Type 0) (e : Ended)
+    → (i : Inputs) × AreInputs held before after command i × IsPast old new were are sure (loaded_of i) e → is_among (0 ∷ 1 ∷ 2 ∷ 4 ∷ 5 ∷ 7 ∷ []) e.status ≡ true
+    → (i : Inputs) × IsRun held before after command old new were are e i
+past_run command held before after old new were are sure e (i, inputs, past) among = read_run command held before after old new were are e (loaded_of i) (i, inputs, refl) among past.ends
 
 -- and what the sink was not sure of
-pub past_unsure : (command : Command) (held : Option Files) (before after : List Read) (old new : Option (List ℕ)) (sure : ℕ → Type 0) (e : Ended)
-    → (i : Inputs) × AreInputs held before after command i × IsPast old new sure (loaded_of i) e
+pub past_unsure : (command : Command) (held : Option Files) (before after : List Read) (old new : Option (List ℕ)) (were are : List Hearer) (sure : ℕ → Type 0) (e : Ended)
+    → (i : Inputs) × AreInputs held before after command i × IsPast old new were are sure (loaded_of i) e
     → (i : Inputs) × At (4 ∷ []) e.status (AreInputs held before after command i × (sure (length (wanted (loaded_of i))) → ⊥))
-past_unsure command held before after old new sure e (i, inputs, past) = (i, on_true (is_among (4 ∷ []) e.status) _ (λ four. (inputs, at_true (is_among (4 ∷ []) e.status) _ four past.unsure)))
+past_unsure command held before after old new were are sure e (i, inputs, past) = (i, on_true (is_among (4 ∷ []) e.status) _ (λ four. (inputs, at_true (is_among (4 ∷ []) e.status) _ four past.unsure)))
 
 -- what was written before is the same
-pub written_before : (loading : Result Loaded Refused) (old was new : Option (List ℕ)) (e : Ended) → was ≡ old → IsEndOf loading was new e → IsEndOf loading old new e
-written_before loading old was new e same k = subst (λ (w : Option (List ℕ)). IsEndOf loading w new e) same k
+pub written_before : (loading : Result Loaded Refused) (old was new : Option (List ℕ)) (were are : List Hearer) (e : Ended) → was ≡ old → are ≡ were → ((hs : List Hearer) → IsEndOf loading was new hs hs e) → IsEndOf loading old new were are e
+written_before loading old was new were are e same unheard k =
+    subst (λ (w : Option (List ℕ)). IsEndOf loading w new were are e) same (subst (λ (hs : List Hearer). IsEndOf loading was new were hs e) (sym unheard) (k were))
 
 -- the inputs read so, and the run has come past them
-pub past_inputs : (command : Command) (held : Option Files) (before after : List Read) (old new : Option (List ℕ)) (sure : ℕ → Type 0) (e : Ended) (loading : Result Loaded Refused)
-    → (i : Inputs) × AreInputs held before after command i × (loaded_of i ≡ loading) → IsPast old new sure loading e
-    → (i : Inputs) × AreInputs held before after command i × IsPast old new sure (loaded_of i) e
-past_inputs command held before after old new sure e loading (i, inputs, is) past = (i, inputs, subst (λ (r : Result Loaded Refused). IsPast old new sure r e) (sym is) past)
+pub past_inputs : (command : Command) (held : Option Files) (before after : List Read) (old new : Option (List ℕ)) (were are : List Hearer) (sure : ℕ → Type 0) (e : Ended) (loading : Result Loaded Refused)
+    → (i : Inputs) × AreInputs held before after command i × (loaded_of i ≡ loading) → IsPast old new were are sure loading e
+    → (i : Inputs) × AreInputs held before after command i × IsPast old new were are sure (loaded_of i) e
+past_inputs command held before after old new were are sure e loading (i, inputs, is) past = (i, inputs, subst (λ (r : Result Loaded Refused). IsPast old new were are sure r e) (sym is) past)
 
 -- ---- the script was run
 
@@ -271,16 +279,21 @@ pub output_of : (l : Loaded) (journal : List StepRec) → output l journal ≡ t
 unfolding output
 output_of l journal = refl
 
+pub reports_in_of : (l : Loaded) (journal : List StepRec) → reports_in l journal ≡ reports_of l.ground (reverse journal)
+unfolding reports_in
+reports_in_of l journal = refl
+
 -- All phases were done.
 
 -- what a run of all phases leaves, at the status 0 or 1
-record IsPlayed (l : Loaded) (old new : Option (List ℕ)) (e : Ended) : Type 0 where
+record IsPlayed (l : Loaded) (old new : Option (List ℕ)) (were are : List Hearer) (e : Ended) : Type 0 where
   pub room : meets_full l ≡ false
   pub history : e.journal ≡ serial l
   pub phases : ArePhases l.phases (reverse e.journal)
   pub alone : HasNoWorkers (reverse e.journal)
   pub legal : Legal l.ground (reverse e.journal)
   pub text : Appended old new (output l e.journal)
+  pub told : AreToldAll (reports_in l e.journal) were are
   pub verdict : e.status ≡ (if ends_pass (output l e.journal) then 0 else 1)
 
 neither : (statuses : List ℕ) (b : Bool) → is_among statuses 0 ≡ false → is_among statuses 1 ≡ false → is_among statuses (if b then 0 else 1) ≡ false
@@ -291,8 +304,8 @@ neither statuses false zeroth first = first
 at_others : (statuses : List ℕ) (s : ℕ) (b : Bool) (P : Type 0) → s ≡ (if b then 0 else 1) → is_among statuses 0 ≡ false → is_among statuses 1 ≡ false → At statuses s P
 at_others statuses s b P is zeroth first = rw (is, neither statuses b zeroth first) tt
 
-played : (l : Loaded) (old new : Option (List ℕ)) (e : Ended) (b : Bool) → IsPlayed l old new e → e.status ≡ (if b then 0 else 1) → IsEndOf (Ok l) old new e
-played l old new e b k status = record {
+played : (l : Loaded) (old new : Option (List ℕ)) (were are : List Hearer) (e : Ended) (b : Bool) → IsPlayed l old new were are e → e.status ≡ (if b then 0 else 1) → IsEndOf (Ok l) old new were are e
+played l old new were are e b k status = record {
   all_read = at_some (0 ∷ 1 ∷ 7 ∷ []) e.status _ refl;
   room = at_some (0 ∷ 1 ∷ []) e.status _ k.room;
   history = at_some (0 ∷ 1 ∷ []) e.status _ k.history;
@@ -302,6 +315,7 @@ played l old new e b k status = record {
   none_out = at_others (4 ∷ 5 ∷ 7 ∷ []) e.status b _ status refl refl;
   legal = at_some (0 ∷ 1 ∷ 4 ∷ 5 ∷ 7 ∷ []) e.status _ k.legal;
   text = at_some (0 ∷ 1 ∷ 7 ∷ []) e.status _ k.text;
+  told = at_some (0 ∷ 1 ∷ 7 ∷ []) e.status _ k.told;
   verdict = at_some (0 ∷ 1 ∷ []) e.status _ k.verdict;
   full = at_others (7 ∷ []) e.status b _ status refl refl;
   long = at_others (7 ∷ []) e.status b _ status refl refl;
@@ -310,14 +324,15 @@ played l old new e b k status = record {
   memory = at_others (5 ∷ []) e.status b _ status refl refl;
 }
 
-is_played : (l : Loaded) (old new : Option (List ℕ)) (e : Ended) (b : Bool) → IsWhole l.ground l.phases old new e.journal → Legal l.ground (reverse e.journal) → ends_pass (text_of l.ground e.journal) ≡ b → e.status ≡ (if b then 0 else 1) → IsPlayed l old new e
-is_played l old new e b w legal passes status = record {
+is_played : (l : Loaded) (old new : Option (List ℕ)) (were are : List Hearer) (e : Ended) (b : Bool) → IsWhole l.ground l.phases old new were are e.journal → Legal l.ground (reverse e.journal) → ends_pass (text_of l.ground e.journal) ≡ b → e.status ≡ (if b then 0 else 1) → IsPlayed l old new were are e
+is_played l old new were are e b w legal passes status = record {
   room = full_of l ∙ w.not_full;
   history = w.journal_is ∙ sym (serial_of l);
   phases = w.phased;
   alone = w.no_workers;
   legal = legal;
   text = subst (λ (xs : List ℕ). Appended old new xs) (sym (output_of l e.journal)) w.text;
+  told = subst (λ (rs : List Report). AreToldAll rs were are) (sym (reports_in_of l e.journal)) w.told;
   verdict = status ∙ ap (λ (x : Bool). if x then 0 else 1) (sym passes ∙ sym (ap (λ (xs : List ℕ). ends_pass xs) (output_of l e.journal)));
 }
 
@@ -326,8 +341,8 @@ abbrev IsStop : Loaded → List StepRec → Type 0
 IsStop l journal = AreStopped l.phases (reverse journal) × (out (reverse journal) ≡ [])
 
 -- The sink failed in the text of a phase.
-unwritten_end : (l : Loaded) (old new : Option (List ℕ)) (e : Ended) → IsUnwritten l.ground l.phases old new e.journal → Legal l.ground (reverse e.journal) → IsStop l e.journal → e.status ≡ 4 → IsEndOf (Ok l) old new e
-unwritten_end l old new e u legal stop status = record {
+unwritten_end : (l : Loaded) (old new : Option (List ℕ)) (were are : List Hearer) (e : Ended) → IsUnwritten l.ground l.phases old new were are e.journal → Legal l.ground (reverse e.journal) → IsStop l e.journal → e.status ≡ 4 → IsEndOf (Ok l) old new were are e
+unwritten_end l old new were are e u legal stop status = record {
   all_read = rw status tt;
   room = rw status tt;
   history = rw status tt;
@@ -337,6 +352,7 @@ unwritten_end l old new e u legal stop status = record {
   none_out = rw status stop.1;
   legal = rw status legal;
   text = rw status tt;
+  told = rw status tt;
   verdict = rw status tt;
   full = rw status tt;
   long = rw status tt;
@@ -346,11 +362,12 @@ unwritten_end l old new e u legal stop status = record {
 }
 
 -- A call would have been answered Full.
-full_end : (l : Loaded) (old new : Option (List ℕ)) (e : Ended) → l.ground.limits ≡ limits → FullIsLong → IsFull l.ground l.phases old new e.journal → Legal l.ground (reverse e.journal) → IsStop l e.journal → e.status ≡ 7 → IsEndOf (Ok l) old new e
-full_end l old new e within law u legal stop status =
+full_end : (l : Loaded) (old new : Option (List ℕ)) (were are : List Hearer) (e : Ended) → l.ground.limits ≡ limits → FullIsLong → IsFull l.ground l.phases old new were are e.journal → Legal l.ground (reverse e.journal) → IsStop l e.journal → e.status ≡ 7 → IsEndOf (Ok l) old new were are e
+full_end l old new were are e within law u legal stop status =
     let back : reverse e.journal ≡ returned l.phases (reverse (serial l)) =
     u.back ∙ ap (λ (h : List StepRec). returned l.phases h) (sym (ap (λ (es : List StepRec). reverse es) (serial_of l) ∙ reverse-reverse (script_history l.ground l.phases))) in
     let text : Appended old new (output l e.journal) = subst (λ (xs : List ℕ). Appended old new xs) (sym (output_of l e.journal)) u.text in
+    let told : AreToldAll (reports_in l e.journal) were are = subst (λ (rs : List Report). AreToldAll rs were are) (sym (reports_in_of l e.journal)) u.told in
     let most : 16777216 ≤ length e.journal + 1 = subst (λ (x : Limits). x.steps ≤ length e.journal + 1) within (law l.ground l.phases e.journal u.full legal stop.1 u.back) in
     let long : 16777215 ≤ length e.journal = omega (arith, most) in
     record {
@@ -359,11 +376,11 @@ full_end l old new e within law u legal stop status =
       history = rw status tt;
       phases = rw status tt;
       alone = rw status tt;
-      alone = rw status tt;
       stopped = rw status stop.0;
       none_out = rw status stop.1;
       legal = rw status legal;
       text = rw status text;
+      told = rw status told;
       verdict = rw status tt;
       full = rw status (full_of l ∙ u.full, back);
       long = rw status long;
@@ -386,14 +403,27 @@ appended_nothing : (old new : Option (List ℕ)) → Appended old new [] → new
 appended_nothing None new a = a
 appended_nothing (Some w) new a = a ∙ ap (λ (xs : List ℕ). Some xs) (append-nil w)
 
-left_steps : (l : Loaded) (old new : Option (List ℕ)) (journal : List StepRec) → IsLeft l.ground l.phases old new journal → IfSteps journal (new ≡ old) (IsLeft l.ground l.phases old new journal)
-left_steps l old new [] u =
-    let none : u.early ≡ [] = nothing_early u.early u.later in
-    appended_nothing old new (subst (λ (h : List StepRec). Appended old new (text_of l.ground (reverse h))) none u.written)
-left_steps l old new (e ∷ es) u = u
+-- and nobody was told anything
+nobody_heard : (rs : List Report) (were are : List Hearer) → rs ≡ [] → AreToldAll rs were are ⊎ AreToldInPart rs were are → are ≡ were
+nobody_heard [] were are none (inl told) = told
+nobody_heard [] were are none (inr part) = no_last part.earlier part.last part.split where
+  no_last : (earlier : List Report) (last : Report) → [] ≡ earlier ++ last ∷ [] → are ≡ were
+  no_last [] last e = absurd (cc)
+  no_last (r ∷ rs) last e = absurd (cc)
+nobody_heard (r ∷ rs) were are none h = absurd (cc)
 
-left_end : (l : Loaded) (old new : Option (List ℕ)) (e : Ended) → IsLeft l.ground l.phases old new e.journal → Legal l.ground (reverse e.journal) → IsStop l e.journal → e.status ≡ 5 → IsEndOf (Ok l) old new e
-left_end l old new e u legal stop status = record {
+left_steps : (l : Loaded) (old new : Option (List ℕ)) (were are : List Hearer) (journal : List StepRec) → IsLeft l.ground l.phases old new were are journal → IfSteps journal ((new ≡ old) × (are ≡ were)) (IsLeft l.ground l.phases old new were are journal)
+left_steps l old new were are [] u =
+    let none : u.early ≡ [] = nothing_early u.early u.later in
+    let unheard : reports_of l.ground u.early ≡ [] = ap (λ (h : List StepRec). reports_of l.ground h) none in
+    (
+      appended_nothing old new (subst (λ (h : List StepRec). Appended old new (text_of l.ground (reverse h))) none u.written),
+      nobody_heard (reports_of l.ground u.early) were are unheard u.told,
+    )
+left_steps l old new were are (e ∷ es) u = u
+
+left_end : (l : Loaded) (old new : Option (List ℕ)) (were are : List Hearer) (e : Ended) → IsLeft l.ground l.phases old new were are e.journal → Legal l.ground (reverse e.journal) → IsStop l e.journal → e.status ≡ 5 → IsEndOf (Ok l) old new were are e
+left_end l old new were are e u legal stop status = record {
   all_read = rw status tt;
   room = rw status tt;
   history = rw status tt;
@@ -403,26 +433,27 @@ left_end l old new e u legal stop status = record {
   none_out = rw status stop.1;
   legal = rw status legal;
   text = rw status tt;
+  told = rw status tt;
   verdict = rw status tt;
   full = rw status tt;
   long = rw status tt;
   refusal = rw status tt;
   sink = rw status tt;
-  memory = rw status (left_steps l old new e.journal u);
+  memory = rw status (left_steps l old new were are e.journal u);
 }
 
 -- All ends of a run.
-ended_by : (l : Loaded) (old new : Option (List ℕ)) (e : Ended) (end : End) → IsFit l.ground l.phases → FullIsLong → IsEndedBy l.ground l.phases old new e.journal end → Legal l.ground (reverse e.journal) → out (reverse e.journal) ≡ [] → e.status ≡ status_at end → IsEndOf (Ok l) old new e
-ended_by l old new e ending.Passed fit law k legal none status = played l old new e true (is_played l old new e true k.0 legal k.1 status) status
-ended_by l old new e ending.Failed fit law k legal none status = played l old new e false (is_played l old new e false k.0 legal k.1 status) status
-ended_by l old new e ending.Unwritten fit law k legal none status = unwritten_end l old new e k legal (k.stopped, none) status
-ended_by l old new e ending.Memory fit law k legal none status = left_end l old new e k legal (k.cut.stopped, none) status
-ended_by l old new e ending.Full fit law k legal none status = full_end l old new e fit.within law k legal (k.stopped, none) status
+ended_by : (l : Loaded) (old new : Option (List ℕ)) (were are : List Hearer) (e : Ended) (end : End) → IsFit l.ground l.phases → FullIsLong → IsEndedBy l.ground l.phases old new were are e.journal end → Legal l.ground (reverse e.journal) → out (reverse e.journal) ≡ [] → e.status ≡ status_at end → IsEndOf (Ok l) old new were are e
+ended_by l old new were are e ending.Passed fit law k legal none status = played l old new were are e true (is_played l old new were are e true k.0 legal k.1 status) status
+ended_by l old new were are e ending.Failed fit law k legal none status = played l old new were are e false (is_played l old new were are e false k.0 legal k.1 status) status
+ended_by l old new were are e ending.Unwritten fit law k legal none status = unwritten_end l old new were are e k legal (k.stopped, none) status
+ended_by l old new were are e ending.Memory fit law k legal none status = left_end l old new were are e k legal (k.cut.stopped, none) status
+ended_by l old new were are e ending.Full fit law k legal none status = full_end l old new were are e fit.within law k legal (k.stopped, none) status
 
-pub play_end : (l : Loaded) (old new : Option (List ℕ)) (ran : Ran) (e : Ended) → IsFit l.ground l.phases → FullIsLong → IsRan l.ground l.phases old new ran → e.journal ≡ ran.journal → e.status ≡ status_at ran.end → IsEndOf (Ok l) old new e
-play_end l old new ran e fit law k journal status =
-    ended_by l old new e ran.end fit law
-    (subst (λ (es : List StepRec). IsEndedBy l.ground l.phases old new es ran.end) (sym journal) k.ended)
+pub play_end : (l : Loaded) (old new : Option (List ℕ)) (were are : List Hearer) (ran : Ran) (e : Ended) → IsFit l.ground l.phases → FullIsLong → IsRan l.ground l.phases old new were are ran → e.journal ≡ ran.journal → e.status ≡ status_at ran.end → IsEndOf (Ok l) old new were are e
+play_end l old new were are ran e fit law k journal status =
+    ended_by l old new were are e ran.end fit law
+    (subst (λ (es : List StepRec). IsEndedBy l.ground l.phases old new were are es ran.end) (sym journal) k.ended)
     (subst (λ (es : List StepRec). Legal l.ground (reverse es)) (sym journal) k.legal)
     (subst (λ (es : List StepRec). out (reverse es) ≡ []) (sym journal) k.none_out) status
 
